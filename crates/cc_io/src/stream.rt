@@ -1,0 +1,70 @@
+// A sink over a writer.
+ghost use Rattle.std.specs.Prelude.{◌≡◌, ℕ, None, take};
+ghost use Rattle.std.specs.Bool.{OnTrue};
+ghost use Rattle.std.specs.Io.KnownBytes.{Appends};
+
+use crate::{Sink, SinkFault};
+use std::io::{ErrorKind, Write};
+use std::marker::Model;
+
+/// A writer as a sink. It tells nothing of what it holds, and never answers `Memory`.
+///
+/// A contract sees the count of faults.
+#[derive(Drop)]
+pub struct StreamSink<W: Write + Drop> {
+    writer: W,
+    faults: u64,
+}
+
+impl<W: Write + Drop> Model for StreamSink<W> {
+    ghost Value = { ℕ };
+
+    ghost view = { λ s. s.faults };
+}
+
+impl<W: Write + Drop> StreamSink<W> {
+    /// A sink over this writer.
+    pub fn new(writer: W) -> StreamSink<W>
+        ensures { result ≡ 0 }
+    {
+        StreamSink { writer, faults: 0 }
+    }
+}
+
+// Writes all bytes and flushes, or tells that it could not. A write that takes nothing of a piece is a fault.
+fn write_whole<W: Write>(writer: &mut W, bytes: &[u8]) -> bool
+    ensures whole { OnTrue result (Appends (W.contents writer.old) (W.contents writer.new) bytes.now) }
+    ensures part { (n : ℕ) × Appends (W.contents writer.old) (W.contents writer.new) (take n bytes.now) }
+{
+    let mut rest = bytes;
+    for _ in 0..u64::MAX {
+        if rest.is_empty() {
+            return writer.flush().is_ok();
+        }
+        match writer.write(rest) {
+            Ok(0) => return false,
+            Ok(n) => rest = &rest[n..],
+            Err(e) => {
+                if e.kind() != ErrorKind::Interrupted {
+                    return false;
+                }
+            }
+        }
+    }
+    false
+}
+
+impl<W: Write + Drop> Sink for StreamSink<W> {
+    ghost held = { λ _. None };
+
+    ghost faults = { λ s. s };
+
+    fn put(&mut self, bytes: &[u8]) -> Result<(), SinkFault> {
+        if write_whole(&mut self.writer, bytes) {
+            Ok(())
+        } else {
+            self.faults = self.faults.saturating_add(1);
+            Err(SinkFault::Failed)
+        }
+    }
+}

@@ -1,0 +1,171 @@
+// The first form of a project file.
+use crate::token::{is_identifier, is_keyword};
+use toml::{Table, Value};
+
+/// A component of one file.
+#[derive(Clone, Copy)]
+pub struct Component<'a> {
+    pub name: &'a str,
+    pub file: &'a str,
+}
+
+/// What a project file of the first form says.
+#[derive(Clone, Copy)]
+pub struct Project<'a> {
+    pub entry: &'a str,
+    pub first: Component<'a>,
+    pub second: Component<'a>,
+}
+
+/// What the document says, if it has exactly these keys: `format`, the integer 1; `entries`, an array of one C
+/// identifier that is no keyword; and `component`, an array of two tables with exactly `name`, a name, and `files`,
+/// an array of one file name. The two names differ, and so do the two files.
+pub fn read_project(document: &Table) -> Option<Project<'_>> {
+    let project = read_shape(document)?;
+    if is_well(&project) {
+        Some(project)
+    } else {
+        None
+    }
+}
+
+// Whether the texts of the project are of their kinds.
+fn is_well(project: &Project<'_>) -> bool {
+    is_identifier(project.entry.as_bytes())
+        && !is_keyword(project.entry)
+        && is_component(&project.first)
+        && is_component(&project.second)
+        && project.first.name != project.second.name
+        && project.first.file != project.second.file
+}
+
+fn is_component(component: &Component<'_>) -> bool {
+    is_name(component.name.as_bytes()) && is_file_name(component.file.as_bytes())
+}
+
+// 1 to 64 bytes of letters, digits, `_` and `-`, beginning with a letter.
+fn is_name(text: &[u8]) -> bool {
+    let Some(first) = text.first() else {
+        return false;
+    };
+    text.len() <= 64
+        && first.is_ascii_alphabetic()
+        && text.iter().all(|byte| byte.is_ascii_alphanumeric() || matches!(byte, b'_' | b'-'))
+}
+
+// 1 to 200 bytes of letters, digits, `_`, `-`, `.` and `/`, not beginning with `/` and without a part `..`.
+fn is_file_name(text: &[u8]) -> bool {
+    let Some(first) = text.first() else {
+        return false;
+    };
+    text.len() <= 200
+        && *first != b'/'
+        && text.iter().all(|byte| byte.is_ascii_alphanumeric()
+            || matches!(byte, b'_' | b'-' | b'.' | b'/'))
+        && !has_part_up(text)
+}
+
+// Whether one of the parts between slashes is `..`.
+fn has_part_up(text: &[u8]) -> bool {
+    text.split(|byte| *byte == b'/')
+        .any(|part| part == b"..".as_slice())
+}
+
+// The text of an array of one string.
+fn only_text(value: &Value) -> Option<&str> {
+    let Value::Array(items) = value else {
+        return None;
+    };
+    let mut items = items.iter();
+    let Some(item) = items.next() else {
+        return None;
+    };
+    if items.next().is_some() {
+        return None;
+    }
+    let Value::String(text) = item else {
+        return None;
+    };
+    Some(text.as_str())
+}
+
+// The name and the file of a table with exactly these.
+fn read_component(value: &Value) -> Option<Component<'_>> {
+    let Value::Table(table) = value else {
+        return None;
+    };
+    let mut members = table.iter();
+    let Some((files_key, files)) = members.next() else {
+        return None;
+    };
+    let Some((name_key, name)) = members.next() else {
+        return None;
+    };
+    if members.next().is_some() {
+        return None;
+    }
+    if files_key.as_str() != "files" {
+        return None;
+    }
+    if name_key.as_str() != "name" {
+        return None;
+    }
+    let Value::String(name) = name else {
+        return None;
+    };
+    let file = only_text(files)?;
+    Some(Component {
+        name: name.as_str(),
+        file,
+    })
+}
+
+// The texts of a document with exactly the keys of the first form.
+fn read_shape(document: &Table) -> Option<Project<'_>> {
+    let mut members = document.iter();
+    let Some((component_key, components)) = members.next() else {
+        return None;
+    };
+    let Some((entries_key, entries)) = members.next() else {
+        return None;
+    };
+    let Some((format_key, format)) = members.next() else {
+        return None;
+    };
+    if members.next().is_some() {
+        return None;
+    }
+    if component_key.as_str() != "component" {
+        return None;
+    }
+    if entries_key.as_str() != "entries" {
+        return None;
+    }
+    if format_key.as_str() != "format" {
+        return None;
+    }
+    let Value::Integer(1) = format else {
+        return None;
+    };
+    let Value::Array(components) = components else {
+        return None;
+    };
+    let mut components = components.iter();
+    let Some(first) = components.next() else {
+        return None;
+    };
+    let Some(second) = components.next() else {
+        return None;
+    };
+    if components.next().is_some() {
+        return None;
+    }
+    let entry = only_text(entries)?;
+    let first = read_component(first)?;
+    let second = read_component(second)?;
+    Some(Project {
+        entry,
+        first,
+        second,
+    })
+}
