@@ -1,4 +1,9 @@
 // What can be reached from a point over edges.
+ghost use Rattle.std.specs.Prelude.{◌≡◌, ℕ, ◌<◌, ◌↔◌, [], ◌∷◌, All, IfOk, IsTrue, OnOk, length};
+ghost use Rattle.cc_base.specs.Edges.{AreBelow, IsMarked, Leads};
+ghost use Rattle.cc_base.specs.Paths.{Reaches};
+ghost use Rattle.cc_base.specs.Search.{AreRowsOf, HasEdge, MarksAll, StaysWithin};
+
 use std::alloc::{AllocError, Global};
 
 /// An edge leads from a point to a point. Points are numbers from 0.
@@ -6,18 +11,6 @@ use std::alloc::{AllocError, Global};
 pub struct Edge {
     pub from: usize,
     pub to: usize,
-}
-
-// For each point the points to which its edges lead.
-fn rows_of(alloc: Global, points: usize, edges: &[Edge]) -> Result<Vec<Vec<usize>>, AllocError> {
-    let mut rows = Vec::new(alloc);
-    for _ in 0..points {
-        rows.push(Vec::new(alloc))?;
-    }
-    for edge in edges {
-        rows[edge.from].push(edge.to)?;
-    }
-    Ok(rows)
 }
 
 /// Which of the points below `points` can be reached from the start over these edges: the start itself, and each
@@ -29,9 +22,42 @@ pub fn reachable(
     points: usize,
     edges: &[Edge],
     start: usize,
-) -> Result<Vec<bool>, AllocError> {
-    let mut marks = vec![in alloc; false; points]?;
+) -> Result<Vec<bool>, AllocError>
+    requires edges { AreBelow points edges.now }
+    requires start { start < points }
+    ensures len { IfOk result (λ marks. length marks.items ≡ points) }
+    ensures exact { IfOk result (λ marks.
+        (point : ℕ) → IsMarked marks.items point ↔ Reaches (Leads edges.now) start point) }
+{
     let rows = rows_of(alloc, points, edges)?;
+    search(alloc, &rows, start)
+}
+
+// For each point the points to which its edges lead.
+fn rows_of(alloc: Global, points: usize, edges: &[Edge]) -> Result<Vec<Vec<usize>>, AllocError>
+    requires { AreBelow points edges.now }
+    ensures len { IfOk result (λ rows. length rows.items ≡ points) }
+    ensures exact { IfOk result (λ rows. AreRowsOf edges.now rows.items) }
+{
+    let mut rows = Vec::new(alloc);
+    for _ in 0..points {
+        rows.push(Vec::new(alloc))?;
+    }
+    for edge in edges {
+        rows[edge.from].push(edge.to)?;
+    }
+    Ok(rows)
+}
+
+// Which points can be reached from the start, where each point has a row of the points that come next.
+fn search(alloc: Global, rows: &[Vec<usize>], start: usize) -> Result<Vec<bool>, AllocError>
+    requires rows { StaysWithin rows.now }
+    requires start { start < length rows.now }
+    ensures len { IfOk result (λ marks. length marks.items ≡ length rows.now) }
+    ensures exact { IfOk result (λ marks.
+        (point : ℕ) → IsMarked marks.items point ↔ Reaches (HasEdge rows.now) start point) }
+{
+    let mut marks = vec![in alloc; false; rows.len()]?;
     let mut work = Vec::new(alloc);
     mark(&mut marks, &mut work, start)?;
     while let Some(point) = work.pop() {
@@ -41,7 +67,10 @@ pub fn reachable(
 }
 
 // Marks all of these points.
-fn mark_all(marks: &mut Vec<bool>, work: &mut Vec<usize>, row: &[usize]) -> Result<(), AllocError> {
+fn mark_all(marks: &mut Vec<bool>, work: &mut Vec<usize>, row: &[usize]) -> Result<(), AllocError>
+    requires { All (λ point. point < length marks.old.items) row.now }
+    ensures { OnOk result (MarksAll marks.old.items marks.new.items work.old.items work.new.items row.now) }
+{
     for point in row {
         mark(marks, work, *point)?;
     }
@@ -49,10 +78,84 @@ fn mark_all(marks: &mut Vec<bool>, work: &mut Vec<usize>, row: &[usize]) -> Resu
 }
 
 // Marks a point, and puts it to the work if it was not marked.
-fn mark(marks: &mut Vec<bool>, work: &mut Vec<usize>, point: usize) -> Result<(), AllocError> {
+fn mark(marks: &mut Vec<bool>, work: &mut Vec<usize>, point: usize) -> Result<(), AllocError>
+    requires { point < length marks.old.items }
+    ensures { OnOk result
+        (MarksAll marks.old.items marks.new.items work.old.items work.new.items (point ∷ [])) }
+{
     if !marks[point] {
         work.push(point)?;
         marks[point] = true;
     }
     Ok(())
+}
+
+#[cfg(test)]
+mod tests {
+    use super::*;
+    use std::test::Fail;
+
+    // Whether the edges stand between points below this number.
+    fn are_below(points: usize, edges: &[Edge]) -> bool
+        ensures { IsTrue result → AreBelow points edges.now }
+    {
+        edges
+            .iter()
+            .all(|edge| edge.from < points && edge.to < points)
+    }
+
+    // Each graph with its number of points, its edges, a start, and the points that can be reached from there.
+    #[test]
+    fn reaches(rt: HostRuntime) -> Result<(), Fail> {
+        let cases: [(usize, &[(usize, usize)], usize, &[bool]); 8] = [
+            // A point alone, without and with an edge to itself.
+            (1, &[], 0, &[true]),
+            (1, &[(0, 0)], 0, &[true]),
+            // The start has no edge, and neither end of the other edge is reached.
+            (3, &[(1, 2)], 0, &[true, false, false]),
+            // A chain from its middle, where a point leads to itself.
+            (
+                4,
+                &[(0, 1), (1, 2), (1, 1), (2, 3)],
+                1,
+                &[false, true, true, true],
+            ),
+            // A cycle, with a point that leads into it and one to which it leads.
+            (
+                5,
+                &[(0, 1), (1, 2), (2, 3), (3, 1), (3, 4)],
+                2,
+                &[false, true, true, true, true],
+            ),
+            // An edge from an unreached point leads to a reached one.
+            (3, &[(2, 1), (0, 1)], 0, &[true, true, false]),
+            // Several edges between the same two points, in both directions.
+            (
+                3,
+                &[(0, 2), (0, 2), (2, 0), (0, 2)],
+                0,
+                &[true, false, true],
+            ),
+            // Two ways to one point, and edges that are listed before the point that leads to them is reached.
+            (
+                6,
+                &[(4, 5), (3, 4), (1, 3), (2, 3), (0, 2), (0, 1)],
+                0,
+                &[true, true, true, true, true, true],
+            ),
+        ];
+        for (points, pairs, start, expected) in cases {
+            let mut edges = Vec::new(rt.alloc());
+            for (from, to) in pairs {
+                edges.push(Edge {
+                    from: *from,
+                    to: *to,
+                })?;
+            }
+            assert!(rt; are_below(points, &edges) && start < points);
+            let marks = reachable(rt.alloc(), points, &edges, start)?;
+            assert_eq!(rt; marks.as_slice(), expected, "from {start} over {edges:?}");
+        }
+        Ok(())
+    }
 }

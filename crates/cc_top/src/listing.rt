@@ -1,7 +1,17 @@
 // The table of the call couplings.
-use crate::paths::reached_calls;
-use crate::program::{Call, Function, Program};
+ghost use Rattle.std.specs.Prelude.{◌≡◌, ℕ, All, IfOk, IfSome, IfNone, true};
+ghost use Rattle.std.specs.List.{flat_map};
+ghost use Rattle.cc_top.specs.Answer.{IsLinked};
+ghost use Rattle.cc_top.specs.Listing.{IsListing};
+ghost use Rattle.cc_top.specs.Names.{is_free_name};
+ghost use Rattle.cc_top.specs.Project.{IsWell};
+ghost use Rattle.cc_top.specs.Unit.{names_of_part, program_of};
+ghost use Rattle.cc_top.specs.Views.{parts_view, project_view};
+
+use crate::paths::coupling_calls;
+use crate::program::{Call, Program, link};
 use crate::project::{Component, Project};
+use crate::unit::Part;
 use cc_tree::{FileId, Spot};
 use csv::{Error as CsvError, Writer, WriterBuilder};
 use std::alloc::{AllocError, Global};
@@ -22,22 +32,7 @@ fn place_text(alloc: Global, file: &str, spot: Spot) -> Result<String, AllocErro
     format!(in alloc; "{file}:{line}:{column}")
 }
 
-// The calls that a path reaches and that lead to another component, in order.
-fn coupling_calls(alloc: Global, program: &Program<'_>) -> Result<Vec<Call>, AllocError> {
-    let reached = reached_calls(alloc, program)?;
-    let mut couplings = Vec::new(alloc);
-    for i in 0..program.calls.len() {
-        let call = program.calls[i];
-        if reached[i]
-            && program.functions[call.caller].file != program.functions[call.callee].file
-        {
-            couplings.push(call)?;
-        }
-    }
-    Ok(couplings)
-}
-
-/// A line of the table, but for its number.
+// A line of the table, but for its kind.
 #[derive(Drop)]
 struct Row<'a> {
     number: String,
@@ -54,7 +49,7 @@ fn row_of<'a>(
     number: usize,
     project: &Project<'a>,
     program: &Program<'a>,
-    call: &Call,
+    call: &Call<'a>,
 ) -> Result<Row<'a>, AllocError> {
     let caller = program.functions[call.caller];
     let callee = program.functions[call.callee];
@@ -64,18 +59,19 @@ fn row_of<'a>(
         number: number.to_string(alloc)?,
         from: from.name,
         to: to.name,
-        definition: place_text(alloc, from.file, call.spot)?,
+        definition: place_text(alloc, from.file, call.name.spot)?,
         used: place_text(alloc, to.file, callee.head.spot)?,
         name: callee.head.text,
     })
 }
 
+// The rows of these call couplings, numbered from 1.
 fn rows_of<'a>(
     alloc: Global,
     project: &Project<'a>,
     program: &Program<'a>,
+    couplings: &[Call<'a>],
 ) -> Result<Vec<Row<'a>>, AllocError> {
-    let couplings = coupling_calls(alloc, program)?;
     let mut rows = Vec::new(alloc);
     for (i, call) in couplings.iter().enumerate() {
         rows.push(row_of(alloc, i + 1, project, program, call)?)?;
@@ -83,20 +79,7 @@ fn rows_of<'a>(
     Ok(rows)
 }
 
-fn write_row(writer: &mut Writer<Vec<u8>>, row: &Row<'_>) -> Result<(), CsvError> {
-    writer.write_fields(&[
-        row.number.as_bytes(),
-        b"call".as_slice(),
-        row.from.as_bytes(),
-        row.to.as_bytes(),
-        row.definition.as_bytes(),
-        row.used.as_bytes(),
-        row.name.as_bytes(),
-    ])
-}
-
-fn table_text(alloc: Global, rows: &[Row<'_>]) -> Result<Vec<u8>, CsvError> {
-    let mut writer = WriterBuilder::new().from_writer(Vec::new(alloc));
+fn write_header(writer: &mut Writer<Vec<u8>>) -> Result<(), CsvError> {
     writer.write_fields(&[
         b"row".as_slice(),
         b"kind".as_slice(),
@@ -105,9 +88,42 @@ fn table_text(alloc: Global, rows: &[Row<'_>]) -> Result<Vec<u8>, CsvError> {
         b"definition".as_slice(),
         b"use".as_slice(),
         b"name".as_slice(),
-    ])?;
+    ])
+}
+
+fn write_fields(
+    writer: &mut Writer<Vec<u8>>,
+    number: &str,
+    from: &str,
+    to: &str,
+    definition: &str,
+    used: &str,
+    name: &str,
+) -> Result<(), CsvError> {
+    writer.write_fields(&[
+        number.as_bytes(),
+        b"call".as_slice(),
+        from.as_bytes(),
+        to.as_bytes(),
+        definition.as_bytes(),
+        used.as_bytes(),
+        name.as_bytes(),
+    ])
+}
+
+fn table_text(alloc: Global, rows: &[Row<'_>]) -> Result<Vec<u8>, CsvError> {
+    let mut writer = WriterBuilder::new().from_writer(Vec::new(alloc));
+    write_header(&mut writer)?;
     for row in rows {
-        write_row(&mut writer, row)?;
+        write_fields(
+            &mut writer,
+            row.number.as_str(),
+            row.from,
+            row.to,
+            row.definition.as_str(),
+            row.used.as_str(),
+            row.name,
+        )?;
     }
     match writer.into_inner() {
         Ok(text) => Ok(text),
@@ -115,15 +131,38 @@ fn table_text(alloc: Global, rows: &[Row<'_>]) -> Result<Vec<u8>, CsvError> {
     }
 }
 
-/// The text of the table: a header, and a line for each call coupling.
-pub fn listing(
+// The table of a program.
+fn program_table(
     alloc: Global,
     project: &Project<'_>,
     program: &Program<'_>,
 ) -> Result<Vec<u8>, AllocError> {
-    let rows = rows_of(alloc, project, program)?;
+    let couplings = coupling_calls(alloc, program)?;
+    let rows = rows_of(alloc, project, program, &couplings)?;
     match table_text(alloc, &rows) {
         Ok(text) => Ok(text),
         Err(_) => Err(AllocError),
+    }
+}
+
+/// The table of the two files' program, or none where a name has two bodies, or a called name or the entry has none.
+pub fn table(
+    alloc: Global,
+    project: &Project<'_>,
+    first: &[Part<'_>],
+    second: &[Part<'_>],
+) -> Result<Option<Vec<u8>>, AllocError>
+    requires well { IsWell (project_view project.now) }
+    requires first { All (λ name. is_free_name name.text ≡ true) (flat_map names_of_part (parts_view first.now)) }
+    requires second { All (λ name. is_free_name name.text ≡ true) (flat_map names_of_part (parts_view second.now)) }
+    ensures some { IfOk result (λ table. IfSome table (λ text. (e : ℕ)
+        × IsLinked (program_of (parts_view first.now) (parts_view second.now)) project.now.entry.now e
+        × IsListing (project_view project.now) (program_of (parts_view first.now) (parts_view second.now)) e text.items)) }
+    ensures none { IfOk result (λ table. IfNone table (
+        (e : ℕ) → IsLinked (program_of (parts_view first.now) (parts_view second.now)) project.now.entry.now e → ⊥)) }
+{
+    match link(alloc, first, second, project.entry)? {
+        Some(program) => Ok(Some(program_table(alloc, project, &program)?)),
+        None => Ok(None),
     }
 }

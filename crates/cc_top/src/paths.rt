@@ -1,4 +1,9 @@
 // Which calls a path from the root can reach.
+ghost use Rattle.std.specs.Prelude.{List, IfOk};
+ghost use Rattle.cc_tree.specs.Couplings.{AreCouplings, Row};
+ghost use Rattle.cc_top.specs.Linked.{IsSound};
+ghost use Rattle.cc_top.specs.Views.{AreCallsOf, program_view};
+
 use crate::program::{Call, Program};
 use cc_base::{Edge, reachable};
 use std::alloc::{AllocError, Global};
@@ -33,7 +38,7 @@ impl Points {
 }
 
 // The point from which a path comes to the call: after the call before it in its body, or the function's entry.
-fn before(points: Points, calls: &[Call], call: usize) -> usize {
+fn before(points: Points, calls: &[Call<'_>], call: usize) -> usize {
     if call > 0 && calls[call - 1].caller == calls[call].caller {
         points.after(call - 1)
     } else {
@@ -42,7 +47,7 @@ fn before(points: Points, calls: &[Call], call: usize) -> usize {
 }
 
 // Whether the call is the last one in its body.
-fn is_last(calls: &[Call], call: usize) -> bool {
+fn is_last(calls: &[Call<'_>], call: usize) -> bool {
     call + 1 == calls.len() || calls[call + 1].caller != calls[call].caller
 }
 
@@ -96,8 +101,8 @@ fn edges_of(alloc: Global, program: &Program<'_>, live: &[bool]) -> Result<Vec<E
     Ok(edges)
 }
 
-/// For each call whether a path leads to it.
-pub fn reached_calls(alloc: Global, program: &Program<'_>) -> Result<Vec<bool>, AllocError> {
+// For each call whether a path leads to it.
+fn reached_calls(alloc: Global, program: &Program<'_>) -> Result<Vec<bool>, AllocError> {
     let points = Points::of(program);
     let calls = program.calls.as_slice();
     let live = live_functions(alloc, program)?;
@@ -108,4 +113,24 @@ pub fn reached_calls(alloc: Global, program: &Program<'_>) -> Result<Vec<bool>, 
         reached.push(marks[before(points, calls, i)])?;
     }
     Ok(reached)
+}
+
+/// The calls that a path reaches and that lead to another component, in the order in which they stand.
+pub fn coupling_calls<'a>(alloc: Global, program: &Program<'a>) -> Result<Vec<Call<'a>>, AllocError>
+    requires { IsSound program.now }
+    ensures { IfOk result (λ couplings. (rows : List Row)
+        × AreCouplings (program_view program.now) program.now.entry rows
+        × AreCallsOf (program_view program.now) rows couplings.items) }
+{
+    let reached = reached_calls(alloc, program)?;
+    let mut couplings = Vec::new(alloc);
+    for i in 0..program.calls.len() {
+        let call = program.calls[i];
+        let caller = program.functions[call.caller];
+        let callee = program.functions[call.callee];
+        if reached[i] && caller.file != callee.file {
+            couplings.push(call)?;
+        }
+    }
+    Ok(couplings)
 }

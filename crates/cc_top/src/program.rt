@@ -1,6 +1,12 @@
 // The program that two files of the first form make.
+ghost use Rattle.std.specs.Prelude.{◌≡◌, ℕ, IfOk, IfSome, IfNone};
+ghost use Rattle.cc_top.specs.Answer.{IsLinked};
+ghost use Rattle.cc_top.specs.Linked.{IsSound};
+ghost use Rattle.cc_top.specs.Unit.{program_of};
+ghost use Rattle.cc_top.specs.Views.{parts_view, program_view};
+
 use crate::unit::{Name, Part};
-use cc_tree::{FileId, Spot};
+use cc_tree::FileId;
 use indexmap::IndexSet;
 use std::alloc::{AllocError, Global};
 
@@ -11,10 +17,10 @@ pub struct Function<'a> {
     pub file: FileId,
 }
 
-/// A call in a function's body. Functions are named by their number in the program.
+/// A call in a function's body: the name that it calls, and the numbers of both functions in the program.
 #[derive(Clone, Copy)]
-pub struct Call {
-    pub spot: Spot,
+pub struct Call<'a> {
+    pub name: Name<'a>,
     pub caller: usize,
     pub callee: usize,
 }
@@ -23,7 +29,7 @@ pub struct Call {
 #[derive(Drop)]
 pub struct Program<'a> {
     pub functions: Vec<Function<'a>>,
-    pub calls: Vec<Call>,
+    pub calls: Vec<Call<'a>>,
     pub entry: usize,
 }
 
@@ -35,7 +41,7 @@ fn add_functions<'a>(
     parts: &[Part<'a>],
 ) -> Result<bool, AllocError> {
     for part in parts {
-        if let Part::Function(head, _) = part {
+        if let Part::Definition(head, _) = part {
             if !names.insert(head.text)? {
                 return Ok(false);
             }
@@ -47,12 +53,12 @@ fn add_functions<'a>(
 
 // Adds the calls of a file; false where a called name has no body.
 fn add_calls<'a>(
-    calls: &mut Vec<Call>,
+    calls: &mut Vec<Call<'a>>,
     names: &IndexSet<&'a str>,
     parts: &[Part<'a>],
 ) -> Result<bool, AllocError> {
     for part in parts {
-        if let Part::Function(head, called) = part {
+        if let Part::Definition(head, called) = part {
             let Some(caller) = names.get_index_of(head.text) else {
                 return Ok(false);
             };
@@ -61,7 +67,7 @@ fn add_calls<'a>(
                     return Ok(false);
                 };
                 calls.push(Call {
-                    spot: call.spot,
+                    name: *call,
                     caller,
                     callee,
                 })?;
@@ -77,7 +83,13 @@ pub fn link<'a>(
     first: &[Part<'a>],
     second: &[Part<'a>],
     entry: &str,
-) -> Result<Option<Program<'a>>, AllocError> {
+) -> Result<Option<Program<'a>>, AllocError>
+    ensures some { IfOk result (λ linked. IfSome linked (λ program.
+        (program_view program ≡ program_of (parts_view first.now) (parts_view second.now))
+        × IsLinked (program_view program) entry.now program.entry × IsSound program)) }
+    ensures none { IfOk result (λ linked. IfNone linked (
+        (e : ℕ) → IsLinked (program_of (parts_view first.now) (parts_view second.now)) entry.now e → ⊥)) }
+{
     let mut names = IndexSet::new(alloc);
     let mut functions = Vec::new(alloc);
     let mut calls = Vec::new(alloc);

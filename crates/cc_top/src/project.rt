@@ -1,4 +1,9 @@
 // The first form of a project file.
+ghost use Rattle.std.specs.Prelude.{◌≡◌, IfSome, IfNone};
+ghost use Rattle.toml.specs.View.{table_view};
+ghost use Rattle.cc_top.specs.Project.{IsWell, Project as ProjectData, project_members};
+ghost use Rattle.cc_top.specs.Views.{project_view};
+
 use crate::token::{is_identifier, is_keyword};
 use toml::{Table, Value};
 
@@ -20,7 +25,10 @@ pub struct Project<'a> {
 /// What the document says, if it has exactly these keys: `format`, the integer 1; `entries`, an array of one C
 /// identifier that is no keyword; and `component`, an array of two tables with exactly `name`, a name, and `files`,
 /// an array of one file name. The two names differ, and so do the two files.
-pub fn read_project(document: &Table) -> Option<Project<'_>> {
+pub fn read_project(document: &Table) -> Option<Project<'_>>
+    ensures some { IfSome result (λ project. (table_view document.now ≡ project_members (project_view project)) × IsWell (project_view project)) }
+    ensures none { IfNone result ((project : ProjectData) → table_view document.now ≡ project_members project → IsWell project → ⊥) }
+{
     let project = read_shape(document)?;
     if is_well(&project) {
         Some(project)
@@ -65,10 +73,21 @@ fn is_file_name(text: &[u8]) -> bool {
         && !has_part_up(text)
 }
 
+// Whether the text begins with the part `..`.
+fn begins_up(text: &[u8]) -> bool {
+    matches!(text, [b'.', b'.'] | [b'.', b'.', b'/', ..])
+}
+
 // Whether one of the parts between slashes is `..`.
 fn has_part_up(text: &[u8]) -> bool {
-    text.split(|byte| *byte == b'/')
-        .any(|part| part == b"..".as_slice())
+    let mut begins = true;
+    for i in 0..text.len() {
+        if begins && begins_up(&text[i..]) {
+            return true;
+        }
+        begins = text[i] == b'/';
+    }
+    false
 }
 
 // The text of an array of one string.

@@ -1,10 +1,8 @@
 // The steps from the words to the text, in their order.
-use crate::listing::listing;
-use crate::program::link;
+use crate::listing::table;
 use crate::project::{Project, read_project};
 use crate::refusal::Refusal;
-use crate::token::read_tokens;
-use crate::unit::{Part, calls_what_stands, read_parts};
+use crate::unit::{Part, read_unit};
 use cc_io::{ByteList, Found, Shelf, ShelfFault};
 use cc_tree::Text;
 use std::alloc::{AllocError, Global};
@@ -76,21 +74,6 @@ fn read_document(alloc: Global, bytes: &[u8]) -> Result<Option<Table>, AllocErro
     }
 }
 
-// The parts of a C file of the first form whose calls name what stands before them, or none.
-fn read_unit(alloc: Global, bytes: &[u8]) -> Result<Option<Vec<Part<'_>>>, AllocError> {
-    let Some(tokens) = read_tokens(alloc, bytes)? else {
-        return Ok(None);
-    };
-    let Some(parts) = read_parts(alloc, &tokens)? else {
-        return Ok(None);
-    };
-    if calls_what_stands(alloc, &parts)? {
-        Ok(Some(parts))
-    } else {
-        Ok(None)
-    }
-}
-
 // The parts of a C file, or its refusal.
 fn unit_of<'a>(alloc: Global, name: &str, bytes: &'a [u8]) -> Result<Vec<Part<'a>>, Refusal> {
     match read_unit(alloc, bytes) {
@@ -110,8 +93,8 @@ fn files_listing(
 ) -> Result<Vec<u8>, Refusal> {
     let first = unit_of(alloc, project.first.file, first)?;
     let second = unit_of(alloc, project.second.file, second)?;
-    match link(alloc, &first, &second, project.entry) {
-        Ok(Some(program)) => Ok(listing(alloc, project, &program)?),
+    match table(alloc, project, &first, &second) {
+        Ok(Some(text)) => Ok(text),
         Ok(None) => Err(unbuilt(alloc, name)),
         Err(_) => Err(Refusal::Memory),
     }

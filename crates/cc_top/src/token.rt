@@ -79,7 +79,7 @@ pub const KEYWORDS: [&str; 44] = [
 ];
 
 // Words of extensions, which are refused.
-const EXTENSIONS: [&str; 4] = ["asm", "__asm", "__asm__", "__attribute__"];
+pub const EXTENSIONS: [&str; 4] = ["asm", "__asm", "__asm__", "__attribute__"];
 
 /// Whether the text is a keyword.
 pub fn is_keyword(text: &str) -> bool {

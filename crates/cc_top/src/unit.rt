@@ -1,5 +1,10 @@
 // The parts of a C file of the first form.
-use crate::token::{Kind, Mark, Token};
+ghost use Rattle.std.specs.Prelude.{◌≤◌, List, length, IfOk, IfSome, IfNone};
+ghost use Rattle.cc_top.specs.Words.{limit};
+ghost use Rattle.cc_top.specs.Unit.{IsUnit, Part as PartData};
+ghost use Rattle.cc_top.specs.Views.{parts_view};
+
+use crate::token::{Kind, Mark, Token, read_tokens};
 use cc_tree::Spot;
 use indexmap::IndexSet;
 use std::alloc::{AllocError, Global};
@@ -17,121 +22,142 @@ pub enum Part<'a> {
     /// `void ID(void);`
     Declaration(Name<'a>),
     /// `void ID(void) { .. }` with its calls `ID();`
-    Function(Name<'a>, Vec<Name<'a>>),
+    Definition(Name<'a>, Vec<Name<'a>>),
 }
 
-// What is behind a `void`.
-fn after_void<'t, 'a>(tokens: &'t [Token<'a>]) -> Option<&'t [Token<'a>]> {
-    let (first, rest) = tokens.split_first()?;
-    match first.kind {
-        Kind::Void => Some(rest),
+// Whether the token at this index is `void`.
+fn is_void(tokens: &[Token<'_>], at: usize) -> bool {
+    match tokens.get(at) {
+        Some(token) => matches!(token.kind, Kind::Void),
+        None => false,
+    }
+}
+
+// Whether the token at this index is this mark.
+fn is_mark(tokens: &[Token<'_>], at: usize, mark: Mark) -> bool {
+    match tokens.get(at) {
+        Some(token) => match token.kind {
+            Kind::Mark(found) => found == mark,
+            _ => false,
+        },
+        None => false,
+    }
+}
+
+// The name at this index.
+fn name_at<'a>(tokens: &[Token<'a>], at: usize) -> Option<Name<'a>> {
+    let token = tokens.get(at)?;
+    match token.kind {
+        Kind::Name(text) => Some(Name {
+            text,
+            spot: token.spot,
+        }),
         _ => None,
     }
 }
 
-// What is behind this mark.
-fn after_mark<'t, 'a>(tokens: &'t [Token<'a>], mark: Mark) -> Option<&'t [Token<'a>]> {
-    let (first, rest) = tokens.split_first()?;
-    match first.kind {
-        Kind::Mark(found) if found == mark => Some(rest),
-        _ => None,
+// How many tokens `void ID(void)` and `ID();` have.
+const HEAD_LEN: usize = 5;
+
+const CALL_LEN: usize = 4;
+
+// The name of `void ID(void)` at the front.
+fn first_head<'a>(tokens: &[Token<'a>]) -> Option<Name<'a>> {
+    let name = name_at(tokens, 1)?;
+    if is_void(tokens, 0)
+        && is_mark(tokens, 2, Mark::OpenParen)
+        && is_void(tokens, 3)
+        && is_mark(tokens, 4, Mark::CloseParen)
+    {
+        Some(name)
+    } else {
+        None
     }
 }
 
-// A name, and what is behind it.
-fn name_first<'t, 'a>(tokens: &'t [Token<'a>]) -> Option<(Name<'a>, &'t [Token<'a>])> {
-    let (first, rest) = tokens.split_first()?;
-    match first.kind {
-        Kind::Name(text) => Some((
-            Name {
-                text,
-                spot: first.spot,
-            },
-            rest,
-        )),
-        _ => None,
+// The name of `ID();` at the front.
+fn first_call<'a>(tokens: &[Token<'a>]) -> Option<Name<'a>> {
+    let name = name_at(tokens, 0)?;
+    if is_mark(tokens, 1, Mark::OpenParen)
+        && is_mark(tokens, 2, Mark::CloseParen)
+        && is_mark(tokens, 3, Mark::Semicolon)
+    {
+        Some(name)
+    } else {
+        None
     }
 }
 
-// `void ID(void)`, and what is behind it.
-fn read_head<'t, 'a>(tokens: &'t [Token<'a>]) -> Option<(Name<'a>, &'t [Token<'a>])> {
-    let (name, rest) = name_first(after_void(tokens)?)?;
-    let rest = after_void(after_mark(rest, Mark::OpenParen)?)?;
-    let rest = after_mark(rest, Mark::CloseParen)?;
-    Some((name, rest))
-}
-
-// `ID();`, and what is behind it.
-fn read_call<'t, 'a>(tokens: &'t [Token<'a>]) -> Option<(Name<'a>, &'t [Token<'a>])> {
-    let (name, rest) = name_first(tokens)?;
-    let rest = after_mark(after_mark(rest, Mark::OpenParen)?, Mark::CloseParen)?;
-    let rest = after_mark(rest, Mark::Semicolon)?;
-    Some((name, rest))
-}
-
-// The calls of a body behind its `{`, and what is behind its `}`.
-fn read_calls<'t, 'a>(
+// The calls of a body whose `{` is read, up to and with its `}`.
+fn first_calls<'a>(
     alloc: Global,
-    tokens: &'t [Token<'a>],
-) -> Result<Option<(Vec<Name<'a>>, &'t [Token<'a>])>, AllocError> {
+    tokens: &[Token<'a>],
+) -> Result<Option<Vec<Name<'a>>>, AllocError> {
     let mut calls = Vec::new(alloc);
     let mut rest = tokens;
-    while let Some((call, behind)) = read_call(rest) {
+    while let Some(call) = first_call(rest) {
         calls.push(call)?;
-        rest = behind;
+        rest = &rest[CALL_LEN..];
     }
-    match after_mark(rest, Mark::CloseBrace) {
-        Some(behind) => Ok(Some((calls, behind))),
+    if is_mark(rest, 0, Mark::CloseBrace) {
+        Ok(Some(calls))
+    } else {
+        Ok(None)
+    }
+}
+
+// The part at the front.
+fn first_part<'a>(alloc: Global, tokens: &[Token<'a>]) -> Result<Option<Part<'a>>, AllocError> {
+    let Some(name) = first_head(tokens) else {
+        return Ok(None);
+    };
+    let rest = &tokens[HEAD_LEN..];
+    if is_mark(rest, 0, Mark::Semicolon) {
+        return Ok(Some(Part::Declaration(name)));
+    }
+    if !is_mark(rest, 0, Mark::OpenBrace) {
+        return Ok(None);
+    }
+    match first_calls(alloc, &rest[1..])? {
+        Some(calls) => Ok(Some(Part::Definition(name, calls))),
         None => Ok(None),
     }
 }
 
-// A part, and what is behind it.
-fn read_part<'t, 'a>(
-    alloc: Global,
-    tokens: &'t [Token<'a>],
-) -> Result<Option<(Part<'a>, &'t [Token<'a>])>, AllocError> {
-    let Some((name, rest)) = read_head(tokens) else {
-        return Ok(None);
-    };
-    if let Some(behind) = after_mark(rest, Mark::Semicolon) {
-        return Ok(Some((Part::Declaration(name), behind)));
-    }
-    let Some(body) = after_mark(rest, Mark::OpenBrace) else {
-        return Ok(None);
-    };
-    match read_calls(alloc, body)? {
-        Some((calls, behind)) => Ok(Some((Part::Function(name, calls), behind))),
-        None => Ok(None),
+// How many tokens the part has.
+fn part_len(part: &Part<'_>) -> usize {
+    match part {
+        Part::Declaration(_) => HEAD_LEN + 1,
+        Part::Definition(_, calls) => HEAD_LEN + 2 + CALL_LEN * calls.len(),
     }
 }
 
-/// The parts that the tokens spell, or none where they spell no file of the first form.
-pub fn read_parts<'a>(
+// The parts that the tokens spell, or none.
+fn read_parts<'a>(
     alloc: Global,
     tokens: &[Token<'a>],
 ) -> Result<Option<Vec<Part<'a>>>, AllocError> {
     let mut parts = Vec::new(alloc);
     let mut rest = tokens;
     while !rest.is_empty() {
-        let Some((part, behind)) = read_part(alloc, rest)? else {
+        let Some(part) = first_part(alloc, rest)? else {
             return Ok(None);
         };
+        rest = &rest[part_len(&part)..];
         parts.push(part)?;
-        rest = behind;
     }
     Ok(Some(parts))
 }
 
-/// Whether each called name stands earlier in the file as the name of a part, that of its own function included.
-pub fn calls_what_stands(alloc: Global, parts: &[Part<'_>]) -> Result<bool, AllocError> {
+// Whether each called name stands earlier in the file as the name of a part, that of its own function included.
+fn calls_stand(alloc: Global, parts: &[Part<'_>]) -> Result<bool, AllocError> {
     let mut heads = IndexSet::new(alloc);
     for part in parts {
         match part {
             Part::Declaration(head) => {
                 heads.insert(head.text)?;
             }
-            Part::Function(head, calls) => {
+            Part::Definition(head, calls) => {
                 heads.insert(head.text)?;
                 if !calls.iter().all(|call| heads.contains(call.text)) {
                     return Ok(false);
@@ -140,4 +166,23 @@ pub fn calls_what_stands(alloc: Global, parts: &[Part<'_>]) -> Result<bool, Allo
         }
     }
     Ok(true)
+}
+
+/// The parts of a C file of the first form, or none where the bytes are no such file. Needs at most 1,048,576 bytes.
+pub fn read_unit(alloc: Global, bytes: &[u8]) -> Result<Option<Vec<Part<'_>>>, AllocError>
+    requires { length bytes.now ≤ limit }
+    ensures some { IfOk result (λ read. IfSome read (λ parts. IsUnit bytes.now (parts_view parts.items))) }
+    ensures none { IfOk result (λ read. IfNone read ((parts : List PartData) → IsUnit bytes.now parts → ⊥)) }
+{
+    let Some(tokens) = read_tokens(alloc, bytes)? else {
+        return Ok(None);
+    };
+    let Some(parts) = read_parts(alloc, &tokens)? else {
+        return Ok(None);
+    };
+    if calls_stand(alloc, &parts)? {
+        Ok(Some(parts))
+    } else {
+        Ok(None)
+    }
 }

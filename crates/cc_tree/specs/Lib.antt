@@ -1,1 +1,4 @@
+pub mod Couplings
+pub mod Points
+pub mod Program
 pub mod Spots
