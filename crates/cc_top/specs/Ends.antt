@@ -26,6 +26,10 @@ Told line status old new faults faults' result =
     ⊎ ((result ≡ 4) × Rose faults faults' × GrowsByPrefix old new line)
     ⊎ ((result ≡ 5) × (new ≡ old))
 
+-- a sink was told a refusal's line, or that memory was wanting
+abbrev pub Reported : (line : List ℕ) (status : ℕ) (old new : Option (List ℕ)) (faults faults' : ℕ) (result : ℕ) → Type 0
+Reported line status old new faults faults' result = Told line status old new faults faults' result ⊎ Told memory_line 5 old new faults faults' result
+
 -- what a sink holds, and how often it failed
 pub record Held : Type 0 where
   pub bytes : Option (List ℕ)

@@ -70,3 +70,9 @@ RefusesForm name _ = ⊥
 abbrev pub FaultNames : (List ℕ → Type 0) → Refusal → Type 0
 FaultNames P (ReadFault told) = P told
 FaultNames P _ = Unit {0}
+
+-- a file or the project is not of the first form, or memory was wanting
+abbrev pub IsOfForm : Refusal → Type 0
+IsOfForm (Unbuilt name) = Unit {0}
+IsOfForm Memory = Unit {0}
+IsOfForm _ = ⊥

@@ -1,11 +1,23 @@
 // The top call.
+ghost use Rattle.std.specs.Prelude.{◌≡◌, ◌≢◌, ◌⊎◌, ◌<◌, ℕ, List, Option, IfSome, map, string_bytes};
+ghost use Rattle.std.specs.Io.KnownBytes.{append_known};
+ghost use Rattle.cc_io.specs.Count.{Rose};
+ghost use Rattle.cc_io.specs.Sink.{GrowsByPrefix};
+ghost use Rattle.cc_top.specs.Answer.{IsAnswer, Reads, Reply};
+ghost use Rattle.cc_top.specs.Ends.{End, Ends, Reported, Told};
+ghost use Rattle.cc_top.specs.Refusal.{line_of, memory_line, status_of, usage_line};
+ghost use Rattle.cc_top.specs.Told.{EndReads, EndTells};
+ghost use Rattle.cc_top.specs.Words.{list_words};
+
 use crate::refusal::Refusal;
 use crate::steps::text_for;
 use cc_io::{Shelf, Sink, SinkFault};
 use std::alloc::Global;
 
 // Puts a line, and answers the status that this gives.
-fn tell<E: Sink>(err: &mut E, line: &[u8], status: u8) -> u8 {
+fn tell<E: Sink>(err: &mut E, line: &[u8], status: u8) -> u8
+    ensures { Told line.now status (E.held err.old) (E.held err.new) (E.faults err.old) (E.faults err.new) result }
+{
     match err.put(line) {
         Ok(()) => status,
         Err(SinkFault::Failed) => 4,
@@ -14,30 +26,67 @@ fn tell<E: Sink>(err: &mut E, line: &[u8], status: u8) -> u8 {
 }
 
 // Puts a line whatever comes of it.
-fn tell_last<E: Sink>(err: &mut E, line: &[u8]) {
+fn tell_last<E: Sink>(err: &mut E, line: &[u8])
+    ensures { GrowsByPrefix (E.held err.old) (E.held err.new) line.now }
+{
     let _ = err.put(line);
 }
 
-fn tell_memory<E: Sink>(err: &mut E) -> u8 {
+fn tell_memory<E: Sink>(err: &mut E) -> u8
+    ensures { Told memory_line 5 (E.held err.old) (E.held err.new) (E.faults err.old) (E.faults err.new) result }
+{
     tell(err, b"out of memory\n", 5)
 }
 
 // Puts a refusal's line, or that memory is wanting.
-fn report<E: Sink>(alloc: Global, err: &mut E, refusal: &Refusal) -> u8 {
+fn report<E: Sink>(alloc: Global, err: &mut E, refusal: &Refusal) -> u8
+    ensures { Reported (line_of refusal.now) (status_of refusal.now) (E.held err.old) (E.held err.new) (E.faults err.old) (E.faults err.new) result }
+{
     match refusal.line(alloc) {
         Ok(line) => tell(err, line.as_bytes(), refusal.status()),
         Err(_) => tell_memory(err),
     }
 }
 
-/// Answers the words over the shelf: text on out, or one line on err, and the status.
+/// Answers the words of a command line over the files of the shelf: the text goes to `out` in one put, or one line to
+/// `err` that says why there is none. The answer is the status: 0 done, 2 the words are no command, 3 the input is
+/// refused, 4 a fault of the shelf or of a sink, 5 want of memory.
+///
+/// Whatever is read is read from the shelf by the names that the words and the project file give.
 pub fn run<S: Shelf, K: Sink, E: Sink>(
     alloc: Global,
     words: &[String],
     shelf: &mut S,
     out: &mut K,
     err: &mut E,
-) -> u8 {
+) -> u8
+    // Over a shelf that tells its files, a status below 4 is the answer's, with the answer's bytes, whatever counts rose.
+    ensures told { IfSome (S.files shelf.old) (λ files. result < 4 → (reply : Reply)
+        × IsAnswer (map string_bytes words.now) files reply × (result ≡ reply.status)
+        × (K.held out.new ≡ append_known (K.held out.old) reply.out)
+        × (E.held err.new ≡ append_known (E.held err.old) reply.err)) }
+
+    // Some end says what stands on out and err, and which count rose. Over a told shelf its text or refusal is the answer's,
+    // and a read fault names a file that is read.
+    ensures ends { (end : End)
+        × Ends (record { bytes = K.held out.old; faults = K.faults out.old }) (record { bytes = K.held out.new; faults = K.faults out.new })
+        (record { bytes = E.held err.old; faults = E.faults err.old }) (record { bytes = E.held err.new; faults = E.faults err.new })
+        (record { faults = S.faults shelf.old; misses = S.misses shelf.old; longs = S.longs shelf.old })
+        (record { faults = S.faults shelf.new; misses = S.misses shelf.new; longs = S.longs shelf.new }) result end
+        × IfSome (S.files shelf.old) (λ files. EndTells (IsAnswer (map string_bytes words.now) files) end)
+        × IfSome (S.files shelf.old) (λ files. EndReads (Reads (map string_bytes words.now) files) end) }
+
+    // The status is at most 5, and 4 only where a count of faults rose.
+    ensures most { result < 6 }
+    ensures fault { result ≡ 4 →
+        (Rose (S.faults shelf.old) (S.faults shelf.new) ⊎ Rose (K.faults out.old) (K.faults out.new)) ⊎ Rose (E.faults err.old) (E.faults err.new) }
+
+    // Words that are no command read nothing, whatever the shelf is.
+    ensures usage { ((project : List ℕ) → map string_bytes words.now ≢ list_words project) →
+        (shelf.new ≡ shelf.old) × (out.new ≡ out.old)
+        × Reported usage_line 2 (E.held err.old) (E.held err.new) (E.faults err.old) (E.faults err.new) result }
+    ensures not_usage { result ≡ 2 → (project : List ℕ) → map string_bytes words.now ≢ list_words project }
+{
     let text = match text_for(alloc, words, shelf) {
         Ok(text) => text,
         Err(refusal) => return report(alloc, err, &refusal),

@@ -31,8 +31,12 @@ impl From<AllocError> for Refusal {
 }
 
 impl Refusal {
+    ghost use Rattle.cc_top.specs.Refusal.{line_of, status_of};
+
     /// The line that stands on err.
-    pub fn line(&self, alloc: Global) -> Result<String, AllocError> {
+    pub fn line(&self, alloc: Global) -> Result<String, AllocError>
+        ensures { IfOk result (λ line. string_bytes line ≡ line_of self.now) }
+    {
         match self {
             Refusal::Usage => String::from_str(
                 alloc,
@@ -47,7 +51,9 @@ impl Refusal {
     }
 
     /// The status that goes with it.
-    pub fn status(&self) -> u8 {
+    pub fn status(&self) -> u8
+        ensures { result ≡ status_of self.now }
+    {
         match self {
             Refusal::Usage => 2,
             Refusal::Missing(_) | Refusal::TooLong(_) | Refusal::Unbuilt(_) => 3,

@@ -1,4 +1,24 @@
 // The steps from the words to the text, in their order.
+//
+// Each step that reads the shelf has the same clauses: the files stay, no count falls, a refusal to read comes only
+// where its count rose (`fault`, `missing`, `long`), and over a shelf that tells its files what the text or the refusal
+// stands for is what the definitions allow (`told`), and a read fault names a file that they read (`names`).
+ghost use Rattle.std.specs.Prelude.{◌≡◌, ◌≢◌, ◌↔◌, ◌≤◌, ◌<◌, ℕ, List, All, Err, Some, IfSome, IfNone, IfOk, IfErr, length, map, string_bytes, true};
+ghost use Rattle.std.specs.List.{flat_map};
+ghost use Rattle.std.specs.FinMap.{get};
+ghost use Rattle.std.specs.Str.{IsUtf8};
+ghost use Rattle.toml.specs.Parse.{parse_document};
+ghost use Rattle.toml.specs.View.{table_view};
+ghost use Rattle.cc_io.specs.Count.{Rose};
+ghost use Rattle.cc_top.specs.Answer.{AfterRead, IsAnswer, OfFiles, OfProgram, OfProject, Reads};
+ghost use Rattle.cc_top.specs.Names.{is_free_name};
+ghost use Rattle.cc_top.specs.Project.{IsProject, IsWell, Project as ProjectData};
+ghost use Rattle.cc_top.specs.Refusal.{FaultNames, IsMissing, IsOfForm, IsReadFault, IsTooLong, RefusesForm, RefusesRead, status_of};
+ghost use Rattle.cc_top.specs.Told.{IsFileName, IsNamed, Tells};
+ghost use Rattle.cc_top.specs.Unit.{IsUnit, Part as PartData, names_of_part, program_of};
+ghost use Rattle.cc_top.specs.Views.{parts_view, project_view};
+ghost use Rattle.cc_top.specs.Words.{limit, list_words};
+
 use crate::listing::table;
 use crate::project::{Project, read_project};
 use crate::refusal::Refusal;
@@ -12,7 +32,10 @@ use toml::Table;
 const LIMIT: u64 = 1_048_576;
 
 // The word after `list`, if there are these two.
-fn project_word(words: &[String]) -> Option<&str> {
+fn project_word(words: &[String]) -> Option<&str>
+    ensures some { IfSome result (λ project. map string_bytes words.now ≡ list_words project.now) }
+    ensures none { IfNone result ((project : List ℕ) → map string_bytes words.now ≢ list_words project) }
+{
     let mut words = words.iter();
     let Some(command) = words.next() else {
         return None;
@@ -29,11 +52,16 @@ fn project_word(words: &[String]) -> Option<&str> {
     Some(project.as_str())
 }
 
-fn text_of(alloc: Global, name: &str) -> Result<Text, AllocError> {
+fn text_of(alloc: Global, name: &str) -> Result<Text, AllocError>
+    ensures { IfOk result (λ text. text ≡ name.now) }
+{
     Ok(Text::new(String::from_str(alloc, name)?))
 }
 
-fn unbuilt(alloc: Global, name: &str) -> Refusal {
+// The file's form is refused.
+fn unbuilt(alloc: Global, name: &str) -> Refusal
+    ensures { RefusesForm name.now result }
+{
     match text_of(alloc, name) {
         Ok(name) => Refusal::Unbuilt(name),
         Err(_) => Refusal::Memory,
@@ -41,7 +69,22 @@ fn unbuilt(alloc: Global, name: &str) -> Refusal {
 }
 
 // A file of at most LIMIT bytes, or why it can't be had.
-fn read_file<S: Shelf>(alloc: Global, shelf: &mut S, name: &str) -> Result<ByteList, Refusal> {
+fn read_file<S: Shelf>(alloc: Global, shelf: &mut S, name: &str) -> Result<ByteList, Refusal>
+    ensures keeps { S.files shelf.new ≡ S.files shelf.old }
+    ensures faults_stay { S.faults shelf.old ≤ S.faults shelf.new }
+    ensures misses_stay { S.misses shelf.old ≤ S.misses shelf.new }
+    ensures longs_stay { S.longs shelf.old ≤ S.longs shelf.new }
+
+    ensures within { IfOk result (λ bytes. length bytes ≤ limit) }
+    ensures held { IfSome (S.files shelf.old) (λ files. IfOk result (λ bytes. get files name.now ≡ Some bytes)) }
+    ensures refused { IfSome (S.files shelf.old) (λ files. IfErr result (RefusesRead files name.now)) }
+
+    ensures fault { IfErr result (λ refusal. IsReadFault refusal → Rose (S.faults shelf.old) (S.faults shelf.new)) }
+    ensures missing { IfErr result (λ refusal. IsMissing refusal → Rose (S.misses shelf.old) (S.misses shelf.new)) }
+    ensures long { IfErr result (λ refusal. IsTooLong refusal → Rose (S.longs shelf.old) (S.longs shelf.new)) }
+    ensures kind { IfErr result (λ refusal. status_of refusal ≢ 2) }
+    ensures names { IfErr result (FaultNames (λ told. told ≡ name.now)) }
+{
     match shelf.read(alloc, name, LIMIT) {
         Ok(Found::File(bytes)) => Ok(bytes),
         Ok(Found::Absent) => Err(match text_of(alloc, name) {
@@ -61,7 +104,10 @@ fn read_file<S: Shelf>(alloc: Global, shelf: &mut S, name: &str) -> Result<ByteL
 }
 
 // The document of the bytes: none where they are no text or no document.
-fn read_document(alloc: Global, bytes: &[u8]) -> Result<Option<Table>, AllocError> {
+fn read_document(alloc: Global, bytes: &[u8]) -> Result<Option<Table>, AllocError>
+    ensures some { IfOk result (λ read. IfSome read (λ table. IsUtf8 bytes.now × (parse_document bytes.now ≡ Some (table_view table)))) }
+    ensures none { IfOk result (λ read. IfNone read ((project : ProjectData) → IsProject bytes.now project → ⊥)) }
+{
     match toml::table_from_slice(alloc, bytes) {
         Ok(table) => Ok(Some(table)),
         Err(e) => {
@@ -75,9 +121,35 @@ fn read_document(alloc: Global, bytes: &[u8]) -> Result<Option<Table>, AllocErro
 }
 
 // The parts of a C file, or its refusal.
-fn unit_of<'a>(alloc: Global, name: &str, bytes: &'a [u8]) -> Result<Vec<Part<'a>>, Refusal> {
+fn unit_of<'a>(alloc: Global, name: &str, bytes: &'a [u8]) -> Result<Vec<Part<'a>>, Refusal>
+    requires { length bytes.now ≤ limit }
+    ensures unit { IfOk result (λ parts. IsUnit bytes.now (parts_view parts.items)) }
+    ensures form { IfErr result (RefusesForm name.now) }
+    ensures none { IfErr result (λ refusal. status_of refusal < 4 → (parts : List PartData) → IsUnit bytes.now parts → ⊥) }
+{
     match read_unit(alloc, bytes) {
         Ok(Some(parts)) => Ok(parts),
+        Ok(None) => Err(unbuilt(alloc, name)),
+        Err(_) => Err(Refusal::Memory),
+    }
+}
+
+// The table of two units.
+fn units_listing(
+    alloc: Global,
+    name: &str,
+    project: &Project<'_>,
+    first: &[Part<'_>],
+    second: &[Part<'_>],
+) -> Result<Vec<u8>, Refusal>
+    requires well { IsWell (project_view project.now) }
+    requires first { All (λ name. is_free_name name.text ≡ true) (flat_map names_of_part (parts_view first.now)) }
+    requires second { All (λ name. is_free_name name.text ≡ true) (flat_map names_of_part (parts_view second.now)) }
+    ensures told { Tells (OfProgram name.now (project_view project.now) (program_of (parts_view first.now) (parts_view second.now))) result }
+    ensures form { IfErr result IsOfForm }
+{
+    match table(alloc, project, first, second) {
+        Ok(Some(text)) => Ok(text),
         Ok(None) => Err(unbuilt(alloc, name)),
         Err(_) => Err(Refusal::Memory),
     }
@@ -90,13 +162,48 @@ fn files_listing(
     project: &Project<'_>,
     first: &[u8],
     second: &[u8],
-) -> Result<Vec<u8>, Refusal> {
-    let first = unit_of(alloc, project.first.file, first)?;
-    let second = unit_of(alloc, project.second.file, second)?;
-    match table(alloc, project, &first, &second) {
-        Ok(Some(text)) => Ok(text),
-        Ok(None) => Err(unbuilt(alloc, name)),
-        Err(_) => Err(Refusal::Memory),
+) -> Result<Vec<u8>, Refusal>
+    requires well { IsWell (project_view project.now) }
+    requires first { length first.now ≤ limit }
+    requires second { length second.now ≤ limit }
+    ensures told { Tells (OfFiles name.now (project_view project.now) first.now second.now) result }
+    ensures form { IfErr result IsOfForm }
+{
+    let parts = match unit_of(alloc, project.first.file, first) {
+        Ok(parts) => parts,
+        Err(refusal) => return Err(refusal),
+    };
+    let others = match unit_of(alloc, project.second.file, second) {
+        Ok(parts) => parts,
+        Err(refusal) => return Err(refusal),
+    };
+    units_listing(alloc, name, project, &parts, &others)
+}
+
+// Reads the second file of the project, and lists both.
+fn second_listing<S: Shelf>(
+    alloc: Global,
+    shelf: &mut S,
+    name: &str,
+    project: &Project<'_>,
+    first: &[u8],
+) -> Result<Vec<u8>, Refusal>
+    requires well { IsWell (project_view project.now) }
+    requires first { length first.now ≤ limit }
+    ensures keeps { S.files shelf.new ≡ S.files shelf.old }
+    ensures faults_stay { S.faults shelf.old ≤ S.faults shelf.new }
+    ensures misses_stay { S.misses shelf.old ≤ S.misses shelf.new }
+    ensures longs_stay { S.longs shelf.old ≤ S.longs shelf.new }
+    ensures told { IfSome (S.files shelf.old) (λ files. Tells (AfterRead files project.now.second.file.now (OfFiles name.now (project_view project.now) first.now)) result) }
+    ensures fault { IfErr result (λ refusal. IsReadFault refusal → Rose (S.faults shelf.old) (S.faults shelf.new)) }
+    ensures missing { IfErr result (λ refusal. IsMissing refusal → Rose (S.misses shelf.old) (S.misses shelf.new)) }
+    ensures long { IfErr result (λ refusal. IsTooLong refusal → Rose (S.longs shelf.old) (S.longs shelf.new)) }
+    ensures kind { IfErr result (λ refusal. status_of refusal ≢ 2) }
+    ensures names { IfErr result (FaultNames (λ told. told ≡ project.now.second.file.now)) }
+{
+    match read_file(alloc, shelf, project.second.file) {
+        Ok(second) => files_listing(alloc, name, project, first, second.bytes()),
+        Err(refusal) => Err(refusal),
     }
 }
 
@@ -106,10 +213,24 @@ fn project_listing<S: Shelf>(
     shelf: &mut S,
     name: &str,
     project: &Project<'_>,
-) -> Result<Vec<u8>, Refusal> {
-    let first = read_file(alloc, shelf, project.first.file)?;
-    let second = read_file(alloc, shelf, project.second.file)?;
-    files_listing(alloc, name, project, first.bytes(), second.bytes())
+) -> Result<Vec<u8>, Refusal>
+    requires well { IsWell (project_view project.now) }
+    ensures keeps { S.files shelf.new ≡ S.files shelf.old }
+    ensures faults_stay { S.faults shelf.old ≤ S.faults shelf.new }
+    ensures misses_stay { S.misses shelf.old ≤ S.misses shelf.new }
+    ensures longs_stay { S.longs shelf.old ≤ S.longs shelf.new }
+    ensures told { IfSome (S.files shelf.old) (λ files. Tells (AfterRead files project.now.first.file.now
+        (λ first. AfterRead files project.now.second.file.now (OfFiles name.now (project_view project.now) first))) result) }
+    ensures fault { IfErr result (λ refusal. IsReadFault refusal → Rose (S.faults shelf.old) (S.faults shelf.new)) }
+    ensures missing { IfErr result (λ refusal. IsMissing refusal → Rose (S.misses shelf.old) (S.misses shelf.new)) }
+    ensures long { IfErr result (λ refusal. IsTooLong refusal → Rose (S.longs shelf.old) (S.longs shelf.new)) }
+    ensures kind { IfErr result (λ refusal. status_of refusal ≢ 2) }
+    ensures names { IfSome (S.files shelf.old) (λ files. IfErr result (FaultNames (IsFileName files (project_view project.now)))) }
+{
+    match read_file(alloc, shelf, project.first.file) {
+        Ok(first) => second_listing(alloc, shelf, name, project, first.bytes()),
+        Err(refusal) => Err(refusal),
+    }
 }
 
 // Lists a project whose file is read.
@@ -118,7 +239,18 @@ fn document_listing<S: Shelf>(
     shelf: &mut S,
     name: &str,
     bytes: &[u8],
-) -> Result<Vec<u8>, Refusal> {
+) -> Result<Vec<u8>, Refusal>
+    ensures keeps { S.files shelf.new ≡ S.files shelf.old }
+    ensures faults_stay { S.faults shelf.old ≤ S.faults shelf.new }
+    ensures misses_stay { S.misses shelf.old ≤ S.misses shelf.new }
+    ensures longs_stay { S.longs shelf.old ≤ S.longs shelf.new }
+    ensures told { IfSome (S.files shelf.old) (λ files. Tells (OfProject files name.now bytes.now) result) }
+    ensures fault { IfErr result (λ refusal. IsReadFault refusal → Rose (S.faults shelf.old) (S.faults shelf.new)) }
+    ensures missing { IfErr result (λ refusal. IsMissing refusal → Rose (S.misses shelf.old) (S.misses shelf.new)) }
+    ensures long { IfErr result (λ refusal. IsTooLong refusal → Rose (S.longs shelf.old) (S.longs shelf.new)) }
+    ensures kind { IfErr result (λ refusal. status_of refusal ≢ 2) }
+    ensures names { IfSome (S.files shelf.old) (λ files. IfErr result (FaultNames (IsNamed files bytes.now))) }
+{
     let table = match read_document(alloc, bytes) {
         Ok(Some(table)) => table,
         Ok(None) => return Err(unbuilt(alloc, name)),
@@ -135,12 +267,24 @@ pub fn text_for<S: Shelf>(
     alloc: Global,
     words: &[String],
     shelf: &mut S,
-) -> Result<Vec<u8>, Refusal> {
+) -> Result<Vec<u8>, Refusal>
+    ensures keeps { S.files shelf.new ≡ S.files shelf.old }
+    ensures faults_stay { S.faults shelf.old ≤ S.faults shelf.new }
+    ensures misses_stay { S.misses shelf.old ≤ S.misses shelf.new }
+    ensures longs_stay { S.longs shelf.old ≤ S.longs shelf.new }
+    ensures told { IfSome (S.files shelf.old) (λ files. Tells (IsAnswer (map string_bytes words.now) files) result) }
+    ensures fault { IfErr result (λ refusal. IsReadFault refusal → Rose (S.faults shelf.old) (S.faults shelf.new)) }
+    ensures missing { IfErr result (λ refusal. IsMissing refusal → Rose (S.misses shelf.old) (S.misses shelf.new)) }
+    ensures long { IfErr result (λ refusal. IsTooLong refusal → Rose (S.longs shelf.old) (S.longs shelf.new)) }
+    ensures names { IfSome (S.files shelf.old) (λ files. IfErr result (FaultNames (Reads (map string_bytes words.now) files))) }
+    ensures usage { (result ≡ Err Refusal.Usage) ↔ ((project : List ℕ) → map string_bytes words.now ≢ list_words project) }
+    ensures untouched { result ≡ Err Refusal.Usage → shelf.new ≡ shelf.old }
+{
     let Some(project) = project_word(words) else {
         return Err(Refusal::Usage);
     };
     match read_file(alloc, shelf, project) {
-        Ok(bytes) => document_listing(alloc, shelf, project, bytes.bytes()),
+        Ok(file) => document_listing(alloc, shelf, project, file.bytes()),
         Err(refusal) => Err(refusal),
     }
 }

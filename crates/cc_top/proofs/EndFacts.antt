@@ -1,0 +1,104 @@
+-- What stands after a put.
+use Rattle.std.proofs.Common.{◌≢◌, ◌⊎◌, ◌<◌, IfSome, inl, inr, arith, ◌≡◌, ℕ, List, length, [], Option, Some, None, OnOk, IsErrOf, Result, Ok, Err, refl, sym, ap, ◌∙◌}
+use Rattle.std.specs.Io.KnownBytes.{append_known}
+use Rattle.std.proofs.lemmas.List.{append-nil}
+use Rattle.std.proofs.Math.Seq.{take-length}
+use Rattle.cc_io.specs.Count.{Rose}
+use Rattle.cc_io.specs.Shelf.{Files}
+use Rattle.cc_io.specs.Sink.{GrowsByPrefix}
+use Rattle.cc_io.specs.declared.sink.SinkFault.{SinkFault}
+use Rattle.cc_io.specs.declared.sink.SinkFault.TheVariants.{Failed, Memory}
+use Rattle.cc_top.specs.Answer as Answer
+use Rattle.cc_top.specs.Answer.{Reply, IsAnswer, Reads}
+use Rattle.cc_top.specs.Refusal.{line_of, status_of, memory_line, usage_line, FaultNames, IsReadFault}
+use Rattle.cc_top.specs.Told.{reply_of, EndTells, EndReads}
+use Rattle.cc_top.specs.Ends.{End, done, refused, write_fault, memory, write_line, Told, Reported, Held, Counts, EndCaused, Ends}
+use Rattle.cc_top.specs.declared.refusal.Refusal.{Refusal}
+use Rattle.cc_top.specs.declared.refusal.Refusal.TheVariants as why
+
+append_known-nil : (o : Option (List ℕ)) → o ≡ append_known o []
+append_known-nil None = refl
+append_known-nil (Some xs) = ap Some (sym (append-nil xs))
+
+-- whatever a put answers, what is held grows by a prefix
+pub prefix_of_put : {T : Type 0} (old new : Option (List ℕ)) (line : List ℕ) (r : Result T SinkFault) → OnOk r (new ≡ append_known old line)
+    → (IsErrOf r Failed → GrowsByPrefix old new line) → (IsErrOf r Memory → new ≡ old) → GrowsByPrefix old new line
+prefix_of_put old new line (Ok x) ok failed kept = (length line, ok ∙ ap (append_known old) (sym (take-length line)))
+prefix_of_put old new line (Err Failed) ok failed kept = failed refl
+prefix_of_put old new line (Err Memory) ok failed kept = (0, kept refl ∙ append_known-nil old)
+
+-- the answer that a status below 4 comes with
+abbrev pub Answered : (words : List (List ℕ)) (files : Files) (out out' err err' : Option (List ℕ)) (result : ℕ) → Type 0
+Answered words files out out' err err' result =
+    result < 4 → (reply : Reply) × IsAnswer words files reply × (result ≡ reply.status) × (out' ≡ append_known out reply.out) × (err' ≡ append_known err reply.err)
+
+pub answered_report : (o : Option Files) (words : List (List ℕ)) (refusal : Refusal) (out err err' : Option (List ℕ)) (faults faults' result : ℕ)
+    → IfSome o (λ files. status_of refusal < 4 → IsAnswer words files (reply_of refusal)) → Reported (line_of refusal) (status_of refusal) err err' faults faults' result
+    → IfSome o (λ files. Answered words files out out err err' result)
+answered_report None words refusal out err err' faults faults' result told reported = tt
+answered_report (Some files) words refusal out err err' faults faults' result told reported = λ below.
+    elim reported [
+      | inl first ↦ elim first [
+        | inl whole ↦ (reply_of refusal, told (omega (arith, whole.0)), whole.0, append_known-nil out, whole.1)
+        | inr less ↦ elim less [ inl part ↦ absurd (omega (arith, part.0)) | inr none ↦ absurd (omega (arith, none.0)) ]
+      ]
+      | inr second ↦ elim second [
+        | inl whole ↦ absurd (omega (arith, whole.0))
+        | inr less ↦ elim less [ inl part ↦ absurd (omega (arith, part.0)) | inr none ↦ absurd (omega (arith, none.0)) ]
+      ]
+    ]
+
+pub answered_text : (o : Option Files) (words : List (List ℕ)) (text : List ℕ) (out out' err : Option (List ℕ))
+    → IfSome o (λ files. IsAnswer words files (Answer.done text)) → out' ≡ append_known out text → IfSome o (λ files. Answered words files out out' err err 0)
+answered_text None words text out out' err told put = tt
+answered_text (Some files) words text out out' err told put = λ below. (Answer.done text, told, refl, put, append_known-nil err)
+
+nothing_told : (o : Option Files) (words : List (List ℕ)) → IfSome o (λ files. EndTells (IsAnswer words files) memory)
+nothing_told None words = tt
+nothing_told (Some files) words = tt
+
+abbrev pub SomeEnd : (o : Option Files) (words : List (List ℕ)) (out out' err err' : Held) (shelf shelf' : Counts) (result : ℕ) → Type 0
+SomeEnd o words out out' err err' shelf shelf' result =
+    (end : End) × Ends out out' err err' shelf shelf' result end × IfSome o (λ files. EndTells (IsAnswer words files) end) × IfSome o (λ files. EndReads (Reads words files) end)
+
+pub end_of_report : (o : Option Files) (words : List (List ℕ)) (refusal : Refusal) (out err err' : Held) (shelf shelf' : Counts) (result : ℕ)
+    → IfSome o (λ files. status_of refusal < 4 → IsAnswer words files (reply_of refusal)) → IfSome o (λ files. FaultNames (Reads words files) refusal) → EndCaused shelf shelf' (refused refusal)
+    → Reported (line_of refusal) (status_of refusal) err.bytes err'.bytes err.faults err'.faults result → SomeEnd o words out out err err' shelf shelf' result
+end_of_report o words refusal out err err' shelf shelf' result told reads caused reported =
+    elim reported [
+      | inl first ↦ (refused refusal, record { stands = (refl, first); caused = caused }, told, reads)
+      | inr second ↦ (memory, record { stands = (refl, second); caused = tt }, nothing_told o words, nothing_told o words)
+    ]
+
+pub end_of_text : (o : Option Files) (words : List (List ℕ)) (text : List ℕ) (out out' err err' : Held) (shelf shelf' : Counts)
+    → IfSome o (λ files. IsAnswer words files (Answer.done text)) → out'.bytes ≡ append_known out.bytes text → err'.bytes ≡ err.bytes
+    → SomeEnd o words out out' err err' shelf shelf' 0
+end_of_text o words text out out' err err' shelf shelf' told put same = (done text, record { stands = (refl, put, same); caused = tt }, told, nothing_told o words)
+
+pub end_of_write_fault : (o : Option Files) (words : List (List ℕ)) (text : List ℕ) (out out' err err' : Held) (shelf shelf' : Counts)
+    → IfSome o (λ files. IsAnswer words files (Answer.done text)) → Rose out.faults out'.faults → GrowsByPrefix out.bytes out'.bytes text → GrowsByPrefix err.bytes err'.bytes write_line
+    → SomeEnd o words out out' err err' shelf shelf' 4
+end_of_write_fault o words text out out' err err' shelf shelf' told rose prefix line = (write_fault text, record { stands = (refl, rose, prefix, line); caused = tt }, told, nothing_told o words)
+
+of_status_4 : (refusal : Refusal) → status_of refusal ≡ 4 → IsReadFault refusal
+of_status_4 why.Usage e = absurd (omega (arith, e))
+of_status_4 (why.ReadFault name) e = tt
+of_status_4 (why.Missing name) e = absurd (omega (arith, e))
+of_status_4 (why.TooLong name) e = absurd (omega (arith, e))
+of_status_4 (why.Unbuilt name) e = absurd (omega (arith, e))
+of_status_4 why.Memory e = absurd (omega (arith, e))
+
+-- a status 4 of a report has its count
+pub fault_of_report : (refusal : Refusal) (A B : Type 0) (err err' : Option (List ℕ)) (faults faults' result : ℕ) → (IsReadFault refusal → A)
+    → Reported (line_of refusal) (status_of refusal) err err' faults faults' result → result ≡ 4 → (A ⊎ B) ⊎ Rose faults faults'
+fault_of_report refusal A B err err' faults faults' result rose reported four =
+    elim reported [
+      | inl first ↦ elim first [
+        | inl whole ↦ inl (inl (rose (of_status_4 refusal (sym whole.0 ∙ four))))
+        | inr less ↦ elim less [ inl part ↦ inr part.1 | inr none ↦ absurd (omega (arith, none.0)) ]
+      ]
+      | inr second ↦ elim second [
+        | inl whole ↦ absurd (omega (arith, whole.0))
+        | inr less ↦ elim less [ inl part ↦ inr part.1 | inr none ↦ absurd (omega (arith, none.0)) ]
+      ]
+    ]
