@@ -159,3 +159,48 @@ impl<'r, R: Files> Shelf for HostShelf<'r, R> {
         }
     }
 }
+
+#[cfg(test)]
+mod tests {
+    use super::*;
+    use std::test::Fail;
+
+    // What a read found, in words.
+    fn word_of(found: &Result<Found, ShelfFault>) -> &'static str {
+        match found {
+            Ok(Found::File(_)) => "file",
+            Ok(Found::Absent) => "absent",
+            Ok(Found::Long) => "long",
+            Err(ShelfFault::Failed) => "failed",
+            Err(ShelfFault::Memory) => "memory",
+        }
+    }
+
+    #[test]
+    fn reads_beside_a_project(rt: HostRuntime) -> Result<(), Fail> {
+        fs::create_dir_all(&rt, "host_shelf")?;
+        fs::write(&rt, "host_shelf/p.toml", b"format = 1")?;
+        fs::write(&rt, "host_shelf/a.c", b"int a;")?;
+        fs::write(&rt, "host_shelf.c", b"")?;
+        let mut beside = HostShelf::beside(&rt, "host_shelf/p.toml");
+        for (name, cap, want) in [
+            ("host_shelf/p.toml", 10, "file"),
+            ("a.c", 6, "file"),
+            ("a.c", 5, "long"),
+            ("b.c", 9, "absent"),
+            ("host_shelf.c", 9, "absent"),
+            ("", 9, "failed"),
+        ] {
+            let found = beside.read(rt.alloc(), name, cap);
+            assert_eq!(rt; word_of(&found), want, "{name} beside the project");
+        }
+        let mut here = HostShelf::new(&rt);
+        let found = here.read(rt.alloc(), "host_shelf.c", 0);
+        assert_eq!(rt; word_of(&found), "file");
+        let Ok(Found::File(bytes)) = beside.read(rt.alloc(), "a.c", u64::MAX) else {
+            return Err(Fail::from("no file"));
+        };
+        assert_eq!(rt; bytes.bytes(), b"int a;".as_slice());
+        Ok(())
+    }
+}

@@ -68,3 +68,62 @@ impl<W: Write + Drop> Sink for StreamSink<W> {
         }
     }
 }
+
+#[cfg(test)]
+mod tests {
+    use super::*;
+    use std::io;
+    use std::test::Fail;
+
+    // Takes one byte in each write, and fails once this many writes are done.
+    struct Slow<'a> {
+        taken: &'a mut Vec<u8>,
+        left: u8,
+    }
+
+    impl Drop for Slow<'_> {
+        fn drop(self) {
+            let Slow { taken: _, left: _ } = self;
+        }
+    }
+
+    impl Write for Slow<'_> {
+        fn write(&mut self, bytes: &[u8]) -> io::Result<usize> {
+            if self.left == 0 {
+                return Err(io::Error::from(ErrorKind::Other));
+            }
+            self.left -= 1;
+            match bytes.first() {
+                Some(byte) => {
+                    self.taken.push(*byte)?;
+                    Ok(1)
+                }
+                None => Ok(0),
+            }
+        }
+
+        fn flush(&mut self) -> io::Result<()> {
+            Ok(())
+        }
+    }
+
+    #[test]
+    fn writes_piece_by_piece(rt: HostRuntime) -> Result<(), Fail> {
+        for (left, want, well) in [
+            (9, "row,kind", true),
+            (8, "row,kind", true),
+            (3, "row", false),
+        ] {
+            let mut taken = Vec::new(rt.alloc());
+            let mut sink = StreamSink::new(Slow {
+                taken: &mut taken,
+                left,
+            });
+            let put = sink.put(b"row,kind");
+            drop(sink);
+            assert_eq!(rt; put.is_ok(), well, "{left} writes");
+            assert_eq!(rt; taken.as_slice(), want.as_bytes(), "{left} writes");
+        }
+        Ok(())
+    }
+}

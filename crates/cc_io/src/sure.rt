@@ -122,3 +122,49 @@ impl Sink for SureSink {
         }
     }
 }
+
+#[cfg(test)]
+mod tests {
+    use super::*;
+    use std::test::Fail;
+
+    // What a read found, in words.
+    fn word_of(found: &Result<Found, ShelfFault>) -> &'static str {
+        match found {
+            Ok(Found::File(_)) => "file",
+            Ok(Found::Absent) => "absent",
+            Ok(Found::Long) => "long",
+            Err(_) => "fault",
+        }
+    }
+
+    #[test]
+    fn shelf(rt: HostRuntime) -> Result<(), Fail> {
+        let mut shelf = SureShelf::new(rt.alloc());
+        shelf.add("a.c", b"old")?;
+        shelf.add("b.c", b"")?;
+        shelf.add("a.c", b"int a;")?;
+        for (name, cap, want) in [
+            ("a.c", 6, "file"),
+            ("a.c", 5, "long"),
+            ("b.c", 0, "file"),
+            ("c.c", 9, "absent"),
+        ] {
+            let found = shelf.read(rt.alloc(), name, cap);
+            assert_eq!(rt; word_of(&found), want, "{name} within {cap}");
+        }
+        let Ok(Found::File(bytes)) = shelf.read(rt.alloc(), "a.c", 6) else {
+            return Err(Fail::from("no file"));
+        };
+        assert_eq!(rt; bytes.bytes(), b"int a;".as_slice());
+        Ok(())
+    }
+
+    #[test]
+    fn sink(rt: HostRuntime) {
+        let mut sink = SureSink::new(rt.alloc());
+        assert!(rt; sink.put(b"one ").is_ok());
+        assert!(rt; sink.put(b"two").is_ok());
+        assert_eq!(rt; sink.held(), b"one two".as_slice());
+    }
+}

@@ -81,6 +81,9 @@ pub fn run<S: Shelf, K: Sink, E: Sink>(
     ensures fault { result ≡ 4 →
         (Rose (S.faults shelf.old) (S.faults shelf.new) ⊎ Rose (K.faults out.old) (K.faults out.new)) ⊎ Rose (E.faults err.old) (E.faults err.new) }
 
+    // The shelf's files stay as they are.
+    ensures keeps { S.files shelf.new ≡ S.files shelf.old }
+
     // Words that are no command read nothing, whatever the shelf is.
     ensures usage { ((project : List ℕ) → map string_bytes words.now ≢ list_words project) →
         (shelf.new ≡ shelf.old) × (out.new ≡ out.old)
