@@ -2,9 +2,9 @@
 --
 -- The evaluated occurrences of a function's body are its block, the expression statements in it, the call that each
 -- statement is, and the name that designates the called function. No condition is evaluated.
-use Rattle.std.specs.Prelude.{◌≡◌, ℕ, zero, suc, Option, Some, None, length, nat_lt, if◌then◌else◌}
+use Rattle.std.specs.Prelude.{◌≡◌, ℕ, zero, suc, Option, Some, None, length, nat_lt, slice_get, if◌then◌else◌}
 use Rattle.cc_base.specs.Paths.{Reaches}
-use Rattle.cc_tree.specs.Program.{Function, Program, IsFunction, IsSite}
+use Rattle.cc_tree.specs.Program.{Function, Name, Program, IsFunction, IsSite}
 
 -- an evaluated occurrence of a body; statements, their calls and the names in these are numbered from 0
 pub data Node : Type 0 where
@@ -61,7 +61,8 @@ pub data Steps (program : Program) : Point → Point → Type 0 where
 -- succession inside a function: a call's `at` leads to its `after`
 pub data Within (program : Program) : Point → Point → Type 0 where
   Step : {a b : Point} → Steps program a b → Within program a b
-  Over : {f i g : ℕ} → IsSite program f i g → Within program (At f i) (After f (Call i))
+  Over : {f i : ℕ} {caller : Function} {call : Name} → IsFunction program f caller → slice_get caller.calls i ≡ Some call
+      → Within program (At f i) (After f (Call i))
 
 -- function number f may call function number g
 abbrev pub MayCall : Program → ℕ → ℕ → Type 0

@@ -68,3 +68,24 @@ impl Place {
         }
     }
 }
+
+#[cfg(test)]
+mod tests {
+    use super::*;
+
+    #[test]
+    fn spots(rt: HostRuntime) {
+        // The spots of the bytes of "a", tab, "b", line feed, line feed, "c" and of the end.
+        let want = [(1, 1), (1, 2), (1, 3), (1, 4), (2, 1), (3, 1), (3, 2)];
+        let mut spot = Spot::start();
+        for (i, (line, column)) in want.iter().enumerate() {
+            let place = Place::new(FileId(7), spot);
+            assert_eq!(rt; (place.line, place.column), (*line, *column), "byte {i}");
+            assert_eq!(rt; place.file, FileId(7));
+            match b"a\tb\n\nc".get(i) {
+                Some(byte) if spot.line < 9 && spot.column < 9 => spot = spot.next(*byte),
+                _ => {}
+            }
+        }
+    }
+}

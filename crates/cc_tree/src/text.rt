@@ -40,3 +40,18 @@ impl fmt::Display for Text {
         f.write_str(self.text.as_str())
     }
 }
+
+#[cfg(test)]
+mod tests {
+    use super::*;
+    use std::test::Fail;
+
+    #[test]
+    fn texts(rt: HostRuntime) -> Result<(), Fail> {
+        let text = Text::new(String::from_str(rt.alloc(), "valve_1")?);
+        assert_eq!(rt; text.as_str(), "valve_1");
+        let line = format!(in rt.alloc(); "{text}: missing")?;
+        assert_eq!(rt; line.as_str(), "valve_1: missing");
+        Ok(())
+    }
+}
