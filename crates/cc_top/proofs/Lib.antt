@@ -1,1 +1,5 @@
+pub mod ListingNames
+pub mod ListingSteps
+pub mod ListingText
+pub mod NamePlain
 pub mod ProjectNames
