@@ -1,6 +1,6 @@
 -- The records of the calls are the lines of the table.
-use Rattle.std.proofs.Common.{◌≡◌, ℕ, suc, zero, ◌+◌, ◌<◌, ◌==◌, cond, Bool, true, false, List, [], ◌∷◌, ◌++◌, map, codes, length, slice_get, None, Some, refl, ap, ◌∙◌, sym, arith, append_assoc, All, subst}
-use Rattle.std.specs.List.{flat_map, AllByRecursion, list_any}
+use Rattle.std.proofs.Common.{◌≡◌, ℕ, suc, zero, ◌+◌, ◌<◌, ◌==◌, cond, true, false, List, [], ◌∷◌, ◌++◌, map, codes, length, slice_get, Some, refl, ap, ◌∙◌, sym, arith, append_assoc, All, subst}
+use Rattle.std.specs.List.{flat_map, AllByRecursion}
 use Rattle.std.specs.Fmt.{decimal}
 use Rattle.std.proofs.lemmas.List.{append-nil}
 use Rattle.std.proofs.lemmas.List.Elements.{All-nil, All-cons}
@@ -11,7 +11,7 @@ use Rattle.cc_tree.specs.Couplings.{Row}
 use Rattle.cc_top.specs.Listing.{AreLines, component_of, header, line, place_text}
 use Rattle.cc_top.specs.ListingRows.{IsWithin, fields_from, fields_of, fields_of_call, file_of, head_of, header_fields, row_fields}
 use Rattle.cc_top.specs.Names.{is_free_name}
-use Rattle.cc_top.specs.Project.{Component, IsComponent, IsWell, Project}
+use Rattle.cc_top.specs.Project.{IsComponent, IsWell, Project}
 use Rattle.cc_top.specs.Views.{AreCallsOf, IsCallOf, calls_view, functions_view, name_view}
 use Rattle.cc_top.specs.declared.listing.Row.{Row as Made}
 use Rattle.cc_top.specs.declared.program.Function.{Function}

@@ -1,5 +1,5 @@
 -- The tests of names, by their parts.
-use Rattle.std.proofs.Common.{◌≡◌, ◌≢◌, ℕ, ◌≤◌, ◌&&◌, Bool, true, false, not, nat_le, eqb, List, [], ◌∷◌, length, slice_get, Some, refl, ap, ◌∙◌, sym}
+use Rattle.std.proofs.Common.{◌≡◌, ℕ, ◌&&◌, true, not, nat_le, eqb, List, [], ◌∷◌, length, slice_get, Some, refl}
 use Rattle.std.specs.List.{list_all}
 use Rattle.cc_top.specs.Names.{is_letter, in_name, in_file_name, is_name, is_file_name, has_part_up}
 

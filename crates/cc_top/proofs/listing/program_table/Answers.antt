@@ -1,4 +1,4 @@
-use Rattle.std.proofs.Common.{◌≡◌, ◌∙◌, ap, sym, subst, List, All}
+use Rattle.std.proofs.Common.{◌∙◌, ap, sym, subst, List, All}
 use Rattle.std.specs.List.{flat_map}
 use Rattle.csv.specs.Writing.{default_writer, row_text}
 use Rattle.cc_top.specs.ListingRows.{IsWithin, fields_from}

@@ -1,4 +1,3 @@
-use Rattle.std.proofs.Common.{◌≡◌}
 use Rattle.cc_top.specs.Views.{parts_view, program_view}
 use Rattle.cc_top.proofs.ListingNames.{program_heads}
 use Rattle.cc_top.proofs.listing.table.Goals as goal
