@@ -1,12 +1,15 @@
 // The table of the call couplings.
-ghost use Rattle.std.specs.Prelude.{◌≡◌, ℕ, All, IfOk, IfSome, IfNone, true};
+ghost use Rattle.std.specs.Prelude.{◌≡◌, ◌++◌, ◌∷◌, [], ℕ, All, IfOk, IfSome, IfNone, OnOk, true, codes, map, string_bytes};
 ghost use Rattle.std.specs.List.{flat_map};
+ghost use Rattle.csv.specs.Writing.{default_writer, row_text};
 ghost use Rattle.cc_top.specs.Answer.{IsLinked};
-ghost use Rattle.cc_top.specs.Listing.{IsListing};
+ghost use Rattle.cc_top.specs.Linked.{IsSound};
+ghost use Rattle.cc_top.specs.Listing.{IsListing, component_of, place_text};
+ghost use Rattle.cc_top.specs.ListingRows.{IsFresh, IsWithin, fields_of_call, fields_from, header_fields, row_fields, written};
 ghost use Rattle.cc_top.specs.Names.{is_free_name};
 ghost use Rattle.cc_top.specs.Project.{IsWell};
 ghost use Rattle.cc_top.specs.Unit.{names_of_part, program_of};
-ghost use Rattle.cc_top.specs.Views.{parts_view, project_view};
+ghost use Rattle.cc_top.specs.Views.{component_view, parts_view, program_view, project_view};
 
 use crate::paths::coupling_calls;
 use crate::program::{Call, Program, link};
@@ -17,7 +20,9 @@ use csv::{Error as CsvError, Writer, WriterBuilder};
 use std::alloc::{AllocError, Global};
 
 // The component that has the file.
-fn component_of<'a>(project: &Project<'a>, file: FileId) -> Component<'a> {
+fn component_of<'a>(project: &Project<'a>, file: FileId) -> Component<'a>
+    ensures { component_view result ≡ component_of (project_view project.now) file.0 }
+{
     if file == FileId(0) {
         project.first
     } else {
@@ -26,7 +31,9 @@ fn component_of<'a>(project: &Project<'a>, file: FileId) -> Component<'a> {
 }
 
 // `file:line:column`.
-fn place_text(alloc: Global, file: &str, spot: Spot) -> Result<String, AllocError> {
+fn place_text(alloc: Global, file: &str, spot: Spot) -> Result<String, AllocError>
+    ensures { IfOk result (λ text. string_bytes text ≡ place_text file.now spot) }
+{
     let line = spot.line;
     let column = spot.column;
     format!(in alloc; "{file}:{line}:{column}")
@@ -50,7 +57,10 @@ fn row_of<'a>(
     project: &Project<'a>,
     program: &Program<'a>,
     call: &Call<'a>,
-) -> Result<Row<'a>, AllocError> {
+) -> Result<Row<'a>, AllocError>
+    requires { IsWithin program.now.functions.items call.now }
+    ensures { IfOk result (λ row. row_fields row ≡ fields_of_call (project_view project.now) program.now.functions.items number call.now) }
+{
     let caller = program.functions[call.caller];
     let callee = program.functions[call.callee];
     let from = component_of(project, caller.file);
@@ -71,7 +81,10 @@ fn rows_of<'a>(
     project: &Project<'a>,
     program: &Program<'a>,
     couplings: &[Call<'a>],
-) -> Result<Vec<Row<'a>>, AllocError> {
+) -> Result<Vec<Row<'a>>, AllocError>
+    requires { All (IsWithin program.now.functions.items) couplings.now }
+    ensures { IfOk result (λ rows. map row_fields rows.items ≡ fields_from (project_view project.now) program.now.functions.items 1 couplings.now) }
+{
     let mut rows = Vec::new(alloc);
     for (i, call) in couplings.iter().enumerate() {
         rows.push(row_of(alloc, i + 1, project, program, call)?)?;
@@ -79,7 +92,10 @@ fn rows_of<'a>(
     Ok(rows)
 }
 
-fn write_header(writer: &mut Writer<Vec<u8>>) -> Result<(), CsvError> {
+fn write_header(writer: &mut Writer<Vec<u8>>) -> Result<(), CsvError>
+    requires { IsFresh writer.old }
+    ensures { OnOk result (IsFresh writer.new × (written writer.new ≡ written writer.old ++ row_text default_writer header_fields)) }
+{
     writer.write_fields(&[
         b"row".as_slice(),
         b"kind".as_slice(),
@@ -99,7 +115,10 @@ fn write_fields(
     definition: &str,
     used: &str,
     name: &str,
-) -> Result<(), CsvError> {
+) -> Result<(), CsvError>
+    requires { IsFresh writer.old }
+    ensures { OnOk result (IsFresh writer.new × (written writer.new ≡ written writer.old ++ row_text default_writer (number.now ∷ codes "call" ∷ from.now ∷ to.now ∷ definition.now ∷ used.now ∷ name.now ∷ []))) }
+{
     writer.write_fields(&[
         number.as_bytes(),
         b"call".as_slice(),
@@ -111,7 +130,9 @@ fn write_fields(
     ])
 }
 
-fn table_text(alloc: Global, rows: &[Row<'_>]) -> Result<Vec<u8>, CsvError> {
+fn table_text(alloc: Global, rows: &[Row<'_>]) -> Result<Vec<u8>, CsvError>
+    ensures { IfOk result (λ text. text.items ≡ row_text default_writer header_fields ++ flat_map (λ row. row_text default_writer (row_fields row)) rows.now) }
+{
     let mut writer = WriterBuilder::new().from_writer(Vec::new(alloc));
     write_header(&mut writer)?;
     for row in rows {
@@ -136,7 +157,12 @@ fn program_table(
     alloc: Global,
     project: &Project<'_>,
     program: &Program<'_>,
-) -> Result<Vec<u8>, AllocError> {
+) -> Result<Vec<u8>, AllocError>
+    requires well { IsWell (project_view project.now) }
+    requires sound { IsSound program.now }
+    requires free { All (λ function. is_free_name function.head.text ≡ true) (program_view program.now) }
+    ensures { IfOk result (λ text. IsListing (project_view project.now) (program_view program.now) program.now.entry text.items) }
+{
     let couplings = coupling_calls(alloc, program)?;
     let rows = rows_of(alloc, project, program, &couplings)?;
     match table_text(alloc, &rows) {

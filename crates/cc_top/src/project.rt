@@ -1,8 +1,11 @@
 // The first form of a project file.
-ghost use Rattle.std.specs.Prelude.{◌≡◌, IfSome, IfNone};
-ghost use Rattle.toml.specs.View.{table_view};
-ghost use Rattle.cc_top.specs.Project.{IsWell, Project as ProjectData, project_members};
-ghost use Rattle.cc_top.specs.Views.{project_view};
+ghost use Rattle.std.specs.Prelude.{◌≡◌, ◌≢◌, ◌↔◌, ℕ, List, true, IsTrue, IfSome, IfNone};
+ghost use Rattle.std.specs.List.{list_all};
+ghost use Rattle.toml.specs.View.{view, table_view};
+ghost use Rattle.cc_top.specs.Names.{in_name, in_file_name, is_name, is_file_name, begins_up, has_part_up};
+ghost use Rattle.cc_top.specs.Project.{IsComponent, IsWell, Component as ComponentData, Project as ProjectData};
+ghost use Rattle.cc_top.specs.Project.{one_text, component_table, project_members};
+ghost use Rattle.cc_top.specs.Views.{component_view, project_view};
 
 use crate::token::{is_identifier, is_keyword};
 use toml::{Table, Value};
@@ -38,7 +41,9 @@ pub fn read_project(document: &Table) -> Option<Project<'_>>
 }
 
 // Whether the texts of the project are of their kinds.
-fn is_well(project: &Project<'_>) -> bool {
+fn is_well(project: &Project<'_>) -> bool
+    ensures { IsTrue result ↔ IsWell (project_view project.now) }
+{
     is_identifier(project.entry.as_bytes())
         && !is_keyword(project.entry)
         && is_component(&project.first)
@@ -47,39 +52,73 @@ fn is_well(project: &Project<'_>) -> bool {
         && project.first.file != project.second.file
 }
 
-fn is_component(component: &Component<'_>) -> bool {
+fn is_component(component: &Component<'_>) -> bool
+    ensures { IsTrue result ↔ IsComponent (component_view component.now) }
+{
     is_name(component.name.as_bytes()) && is_file_name(component.file.as_bytes())
 }
 
+// A byte of a component's name.
+fn in_name(byte: u8) -> bool
+    ensures { result ≡ in_name byte }
+{
+    byte.is_ascii_alphanumeric() || byte == b'_' || byte == b'-'
+}
+
+// A byte of a file's name.
+fn in_file_name(byte: u8) -> bool
+    ensures { result ≡ in_file_name byte }
+{
+    in_name(byte) || byte == b'.' || byte == b'/'
+}
+
+fn are_in_name(text: &[u8]) -> bool
+    ensures { result ≡ list_all in_name text.now }
+{
+    text.iter().all(|byte| in_name(*byte))
+}
+
+fn are_in_file_name(text: &[u8]) -> bool
+    ensures { result ≡ list_all in_file_name text.now }
+{
+    text.iter().all(|byte| in_file_name(*byte))
+}
+
 // 1 to 64 bytes of letters, digits, `_` and `-`, beginning with a letter.
-fn is_name(text: &[u8]) -> bool {
-    let Some(first) = text.first() else {
-        return false;
-    };
-    text.len() <= 64
-        && first.is_ascii_alphabetic()
-        && text.iter().all(|byte| byte.is_ascii_alphanumeric() || matches!(byte, b'_' | b'-'))
+#[tactic(auto, using(crate::proofs::ProjectNames::name_parts))]
+fn is_name(text: &[u8]) -> bool
+    ensures { result ≡ is_name text.now }
+{
+    match text.first() {
+        Some(first) => { first.is_ascii_alphabetic() && text.len() <= 64 && are_in_name(text) }
+        None => false,
+    }
 }
 
 // 1 to 200 bytes of letters, digits, `_`, `-`, `.` and `/`, not beginning with `/` and without a part `..`.
-fn is_file_name(text: &[u8]) -> bool {
-    let Some(first) = text.first() else {
-        return false;
-    };
-    text.len() <= 200
-        && *first != b'/'
-        && text.iter().all(|byte| byte.is_ascii_alphanumeric()
-            || matches!(byte, b'_' | b'-' | b'.' | b'/'))
-        && !has_part_up(text)
+#[tactic(auto, using(crate::proofs::ProjectNames::file_name_parts))]
+fn is_file_name(text: &[u8]) -> bool
+    ensures { result ≡ is_file_name text.now }
+{
+    match text.first() {
+        Some(first) => {
+            *first != b'/' && text.len() <= 200 && are_in_file_name(text) && !has_part_up(text)
+        }
+        None => false,
+    }
 }
 
 // Whether the text begins with the part `..`.
-fn begins_up(text: &[u8]) -> bool {
+fn begins_up(text: &[u8]) -> bool
+    ensures { result ≡ begins_up text.now }
+{
     matches!(text, [b'.', b'.'] | [b'.', b'.', b'/', ..])
 }
 
 // Whether one of the parts between slashes is `..`.
-fn has_part_up(text: &[u8]) -> bool {
+fn has_part_up(text: &[u8]) -> bool
+    ensures { result ≡ has_part_up true text.now }
+{
     let mut begins = true;
     for i in 0..text.len() {
         if begins && begins_up(&text[i..]) {
@@ -91,7 +130,10 @@ fn has_part_up(text: &[u8]) -> bool {
 }
 
 // The text of an array of one string.
-fn only_text(value: &Value) -> Option<&str> {
+fn only_text(value: &Value) -> Option<&str>
+    ensures some { IfSome result (λ text. view value.now ≡ one_text text.now) }
+    ensures none { IfNone result ((text : List ℕ) → view value.now ≢ one_text text) }
+{
     let Value::Array(items) = value else {
         return None;
     };
@@ -109,7 +151,10 @@ fn only_text(value: &Value) -> Option<&str> {
 }
 
 // The name and the file of a table with exactly these.
-fn read_component(value: &Value) -> Option<Component<'_>> {
+fn read_component(value: &Value) -> Option<Component<'_>>
+    ensures some { IfSome result (λ component. view value.now ≡ component_table (component_view component)) }
+    ensures none { IfNone result ((component : ComponentData) → view value.now ≢ component_table component) }
+{
     let Value::Table(table) = value else {
         return None;
     };
@@ -140,7 +185,10 @@ fn read_component(value: &Value) -> Option<Component<'_>> {
 }
 
 // The texts of a document with exactly the keys of the first form.
-fn read_shape(document: &Table) -> Option<Project<'_>> {
+fn read_shape(document: &Table) -> Option<Project<'_>>
+    ensures some { IfSome result (λ project. table_view document.now ≡ project_members (project_view project)) }
+    ensures none { IfNone result ((project : ProjectData) → table_view document.now ≢ project_members project) }
+{
     let mut members = document.iter();
     let Some((component_key, components)) = members.next() else {
         return None;
