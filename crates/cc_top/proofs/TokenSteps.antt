@@ -1,10 +1,10 @@
 -- What each step of a lexer does to the cuts of the bytes.
-use Rattle.std.proofs.Common.{not, ◌≡◌, ◌≢◌, ℕ, zero, suc, ◌+◌, ◌≤◌, ◌<◌, Bool, true, false, cond, ◌&&◌, ◌||◌, eqb, List, [], ◌∷◌, ◌++◌, length, take, drop, refl, sym, ap, subst, ◌∙◌, arith, ◌⊎◌, inl, inr}
+use Rattle.std.proofs.Common.{not, ◌≡◌, ◌≢◌, ℕ, zero, suc, ◌+◌, ◌≤◌, ◌<◌, Bool, true, false, cond, ◌&&◌, ◌||◌, eqb, List, [], ◌∷◌, ◌++◌, length, length-drop, get_or, take, drop, refl, sym, ap, subst, ◌∙◌, arith, ◌⊎◌, inl, inr}
 use Rattle.std.proofs.lemmas.Bool.{eqb-true}
 use Rattle.std.proofs.lemmas.List.{take-append-drop}
 use Rattle.std.proofs.Math.Seq.{take-append_seam, drop-append_seam}
 use Rattle.std.specs.List.{list_all}
-use Rattle.std.specs.Prelude.{codes, IfSome, Option, Some, None, slice_get}
+use Rattle.std.specs.Prelude.{if◌then◌else◌, codes, IfSome, Option, Some, None, slice_get}
 use Rattle.cc_tree.specs.declared.place.Spot.{Spot}
 use Rattle.cc_tree.specs.Spots.{start, next_spot, spot_behind}
 use Rattle.cc_top.specs.Names.{is_word_byte, is_free_name, is_identifier}
@@ -202,3 +202,33 @@ read_end bytes tokens at r = record {
     cuts = λ ts s. r.cuts ts [] s refl;
     only = λ ts f c. let p = r.only ts f c in subst (λ (xs : List Spelled). Spells tokens ts xs) (at_end at p.0 p.2 p.3) p.1;
   }
+
+-- ---- the same, as the code comes to it
+
+pub step_white : (bytes : List ℕ) (tokens : List Token) (at : Spot) (text : List ℕ) → IsReadTo bytes tokens at text → 1 ≤ length text → is_white (get_or text 0 0) ≡ true
+    → IsReadTo bytes tokens (next_spot at (get_or text 0 0)) (drop 1 text)
+step_white bytes tokens at [] r l w = absurd (omega arith)
+step_white bytes tokens at (b ∷ z) r l w = read_white bytes tokens at b z r w
+
+pub step_none : (bytes : List ℕ) (tokens : List Token) (at : Spot) (text : List ℕ) → IsReadTo bytes tokens at text → 1 ≤ length text → is_white (get_or text 0 0) ≡ false
+    → is_form_text (take (token_len text) text) ≡ false → NoTokens bytes
+step_none bytes tokens at [] r l w = absurd (omega arith)
+step_none bytes tokens at (b ∷ z) r l w = read_none bytes tokens at b z r w
+
+pub step_token : (bytes : List ℕ) (tokens : List Token) (at : Spot) (text : List ℕ) (found : Kind) (n : ℕ) → IsReadTo bytes tokens at text → 1 ≤ length text → is_white (get_or text 0 0) ≡ false
+    → IsFirst text found n → IsReadTo bytes (tokens ++ (record { kind = found; spot = at }) ∷ []) (record { line = at.line; column = at.column + n }) (drop n text)
+step_token bytes tokens at [] found n r l w = absurd (omega arith)
+step_token bytes tokens at (b ∷ z) found n r l w = read_token bytes tokens at b z found n r w
+
+pub step_end : (bytes : List ℕ) (tokens : List Token) (at : Spot) (text : List ℕ) → IsReadTo bytes tokens at text → length text < 1 → IsTokens bytes tokens
+step_end bytes tokens at [] r l = read_end bytes tokens at r
+step_end bytes tokens at (b ∷ z) r l = absurd (omega arith)
+
+pub line_grows : (at : Spot) (b : ℕ) → (next_spot at b).line ≤ at.line + 1
+line_grows at b = elim (eqb b 10) as (λ v. (if v then (record { line = at.line + 1; column = 1 }) else record at { column = at.column + 1 }).line ≤ at.line + 1) [ true ↦ omega arith | false ↦ omega arith ]
+
+pub column_grows : (at : Spot) (b : ℕ) → (next_spot at b).column ≤ at.column + 1
+column_grows at b = elim (eqb b 10) as (λ v. (if v then (record { line = at.line + 1; column = 1 }) else record at { column = at.column + 1 }).column ≤ at.column + 1) [ true ↦ omega arith | false ↦ omega arith ]
+
+pub drop_len : (n : ℕ) (text rest : List ℕ) → n ≤ length text → rest ≡ drop n text → length rest + n ≡ length text
+drop_len n text rest h e = omega (arith, ap length e, length-drop {A = ℕ})

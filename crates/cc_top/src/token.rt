@@ -1,5 +1,5 @@
 // The tokens of a C file of the first form.
-ghost use Rattle.std.specs.Prelude.{◌≡◌, ◌≤◌, ◌<◌, false, not, length, take, IfOk, IfSome, IfNone, MatchOption};
+ghost use Rattle.std.specs.Prelude.{◌≡◌, ◌≤◌, ◌<◌, false, not, length, take, drop, IfOk, IfSome, IfNone, MatchOption};
 ghost use Rattle.std.specs.List.{list_all, list_any, position};
 ghost use Rattle.std.specs.Str.{bytes_eq};
 ghost use Rattle.cc_top.specs.Names as names;
@@ -198,6 +198,13 @@ fn first_kind(text: &[u8]) -> Option<(Kind<'_>, usize)>
     }
 }
 
+fn behind(text: &[u8], len: usize) -> &[u8]
+    requires { len ≤ length text.now }
+    ensures { result.now ≡ drop len text.now }
+{
+    &text[len..]
+}
+
 /// The tokens of the bytes, or none where these are no white bytes and tokens of the first form.
 pub fn read_tokens(alloc: Global, bytes: &[u8]) -> Result<Option<Vec<Token<'_>>>, AllocError>
     requires { length bytes.now ≤ limit }
@@ -207,17 +214,17 @@ pub fn read_tokens(alloc: Global, bytes: &[u8]) -> Result<Option<Vec<Token<'_>>>
     let mut tokens = Vec::new(alloc);
     let mut rest = bytes;
     let mut spot = Spot::start();
-    while let [first, behind @ ..] = rest {
+    while let [first, ..] = rest {
         if is_white(*first) {
             spot = spot.next(*first);
-            rest = behind;
+            rest = behind(rest, 1);
         } else {
             let Some((kind, len)) = first_kind(rest) else {
                 return Ok(None);
             };
             tokens.push(Token { kind, spot })?;
             spot.column += len as u32;
-            rest = &rest[len..];
+            rest = behind(rest, len);
         }
     }
     Ok(Some(tokens))
