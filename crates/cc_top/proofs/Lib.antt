@@ -4,5 +4,7 @@ pub mod ListingSteps
 pub mod ListingText
 pub mod NamePlain
 pub mod ProjectNames
+pub mod TokenLaws
+pub mod TokenSteps
 pub mod Told
 pub mod WordFacts
