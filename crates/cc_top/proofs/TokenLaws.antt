@@ -226,11 +226,11 @@ word_some [] b n found f l h k t m = absurd cc
 word_some (a ∷ z) b n found f l h k t m =
     elim (cases (is_word_byte a)) [
       | inl w ↦ record {
-          kind = k;
-          text = t;
-          len = rw w (rw w at l);
-          within = h;
-          some = let p : n ≡ suc (word_len z) = rw w at l in omega arith;
-        }
+        kind = k;
+        text = t;
+        len = rw w (rw w at l);
+        within = h;
+        some = let p : n ≡ suc (word_len z) = rw w at l in omega arith;
+      }
       | inr w ↦ let p : n ≡ 0 = rw w at l in absurd (text_some found k (rw p at t))
     ]

@@ -129,17 +129,17 @@ front at b z (t ∷ ts) f w c = front_by at b z t ts f w c.0 c.1 c.2 c.3 c.4 c.5
 
 pub read_start : (bytes : List ℕ) → IsReadTo bytes [] start bytes
 read_start bytes = record {
-    kinds = tt;
-    cuts = λ ts us s c. subst (λ (xs : List Spelled). IsCut start bytes xs) (sym s) c;
-    only = λ ts f c. (ts, refl, f, c);
-  }
+  kinds = tt;
+  cuts = λ ts us s c. subst (λ (xs : List Spelled). IsCut start bytes xs) (sym s) c;
+  only = λ ts f c. (ts, refl, f, c);
+}
 
 pub read_white : (bytes : List ℕ) (tokens : List Token) (at : Spot) (b : ℕ) (z : List ℕ) → IsReadTo bytes tokens at (b ∷ z) → is_white b ≡ true → IsReadTo bytes tokens (next_spot at b) z
 read_white bytes tokens at b z r w = record {
-    kinds = r.kinds;
-    cuts = λ ts us s c. r.cuts ts us s (white_on at b z us w c);
-    only = λ ts f c. let p = r.only ts f c in (p.0, p.1, p.2, white_off at b z p.0 p.2 w p.3);
-  }
+  kinds = r.kinds;
+  cuts = λ ts us s c. r.cuts ts us s (white_on at b z us w c);
+  only = λ ts f c. let p = r.only ts f c in (p.0, p.1, p.2, white_off at b z p.0 p.2 w p.3);
+}
 
 pub read_none : (bytes : List ℕ) (tokens : List Token) (at : Spot) (b : ℕ) (z : List ℕ) → IsReadTo bytes tokens at (b ∷ z) → is_white b ≡ false
     → is_form_text (take (token_len (b ∷ z)) (b ∷ z)) ≡ false → NoTokens bytes
@@ -167,7 +167,7 @@ first_off : (at : Spot) (bytes : List ℕ) (found : Kind) (n : ℕ) → IsFirst 
     → IsCut (spot_behind at t.text) (drop (token_len bytes) bytes) us → IsCut (placed at (at.column + n)) (drop n bytes) us
 first_off at bytes found n first t us w c =
     let moved : IsCut (placed at (at.column + n)) (drop (token_len bytes) bytes) us =
-      subst (λ (s : Spot). IsCut s (drop (token_len bytes) bytes) us) (first_spot at bytes found n first t.text w) c in
+    subst (λ (s : Spot). IsCut s (drop (token_len bytes) bytes) us) (first_spot at bytes found n first t.text w) c in
     subst (λ (k : ℕ). IsCut (placed at (at.column + n)) (drop k bytes) us) (sym first.len) moved
 
 pub read_token : (bytes : List ℕ) (tokens : List Token) (at : Spot) (b : ℕ) (z : List ℕ) (found : Kind) (n : ℕ) → IsReadTo bytes tokens at (b ∷ z) → is_white b ≡ false → IsFirst (b ∷ z) found n
@@ -198,10 +198,10 @@ at_end at (t ∷ us) f c = at_end_by t us f.0 c.0 c.1 c.2
 
 pub read_end : (bytes : List ℕ) (tokens : List Token) (at : Spot) → IsReadTo bytes tokens at [] → IsTokens bytes tokens
 read_end bytes tokens at r = record {
-    kinds = r.kinds;
-    cuts = λ ts s. r.cuts ts [] s refl;
-    only = λ ts f c. let p = r.only ts f c in subst (λ (xs : List Spelled). Spells tokens ts xs) (at_end at p.0 p.2 p.3) p.1;
-  }
+  kinds = r.kinds;
+  cuts = λ ts s. r.cuts ts [] s refl;
+  only = λ ts f c. let p = r.only ts f c in subst (λ (xs : List Spelled). Spells tokens ts xs) (at_end at p.0 p.2 p.3) p.1;
+}
 
 -- ---- the same, as the code comes to it
 

@@ -1,8 +1,7 @@
 -- Names in C files and in projects, as tests of their bytes.
-use Rattle.std.specs.Prelude.{◌==◌, ◌&&◌, ◌||◌, ℕ, List, [], ◌∷◌, Bool, true, false, not, nat_le, length}
+use Rattle.std.specs.Prelude.{◌==◌, ◌&&◌, ◌||◌, ℕ, List, [], ◌∷◌, Bool, true, false, not, nat_le, length, codes}
 use Rattle.std.specs.List.{list_all, list_any}
 use Rattle.std.specs.Str.{bytes_eq}
-use Rattle.cc_top.specs.declared.token.TheConstants.{KEYWORDS, EXTENSIONS}
 
 abbrev pub is_letter : ℕ → Bool
 is_letter b = (nat_le 65 b && nat_le b 90) || (nat_le 97 b && nat_le b 122)
@@ -19,13 +18,26 @@ abbrev pub is_identifier : List ℕ → Bool
 is_identifier [] = false
 is_identifier (b ∷ z) = not (is_digit b) && list_all is_word_byte (b ∷ z)
 
--- one of the 44 keywords (C17 6.4.1)
-abbrev pub is_keyword : List ℕ → Bool
-is_keyword text = list_any (λ keyword. bytes_eq keyword.now text) KEYWORDS
+-- the 44 keywords (C17 6.4.1)
+abbrev pub keywords : List (List ℕ)
+keywords =
+    codes "auto" ∷ codes "break" ∷ codes "case" ∷ codes "char" ∷ codes "const" ∷ codes "continue" ∷ codes "default" ∷
+    codes "do" ∷ codes "double" ∷ codes "else" ∷ codes "enum" ∷ codes "extern" ∷ codes "float" ∷ codes "for" ∷
+    codes "goto" ∷ codes "if" ∷ codes "inline" ∷ codes "int" ∷ codes "long" ∷ codes "register" ∷ codes "restrict" ∷
+    codes "return" ∷ codes "short" ∷ codes "signed" ∷ codes "sizeof" ∷ codes "static" ∷ codes "struct" ∷ codes "switch" ∷
+    codes "typedef" ∷ codes "union" ∷ codes "unsigned" ∷ codes "void" ∷ codes "volatile" ∷ codes "while" ∷ codes "_Alignas" ∷
+    codes "_Alignof" ∷ codes "_Atomic" ∷ codes "_Bool" ∷ codes "_Complex" ∷ codes "_Generic" ∷ codes "_Imaginary" ∷ codes "_Noreturn" ∷
+    codes "_Static_assert" ∷ codes "_Thread_local" ∷ []
 
--- one of the words of extensions, which are refused
+abbrev pub is_keyword : List ℕ → Bool
+is_keyword text = list_any (λ keyword. bytes_eq keyword text) keywords
+
+-- words of extensions, which are refused
+abbrev pub extensions : List (List ℕ)
+extensions = codes "asm" ∷ codes "__asm" ∷ codes "__asm__" ∷ codes "__attribute__" ∷ []
+
 abbrev pub is_extension : List ℕ → Bool
-is_extension text = list_any (λ extension. bytes_eq extension.now text) EXTENSIONS
+is_extension text = list_any (λ extension. bytes_eq extension text) extensions
 
 -- an identifier that is no keyword and no word of an extension
 abbrev pub is_free_name : List ℕ → Bool

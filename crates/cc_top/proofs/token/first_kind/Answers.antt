@@ -12,4 +12,4 @@ returns-in_err-kind-in-None-clause-none c =
 pub returns-in_ok-kind-in-None-clause-some : goal.returns-in_ok-kind-in-None-clause-some
 returns-in_ok-kind-in-None-clause-some c =
     word_some c.args.text.now c.in_ok-first.first.now c.word_len-len.result c.in_ok-kind-in-None.kind (sym c.in_ok-first.ensures.value) c.word_len-len.ensures.value c.word_len-len.ensures.within
-        c.in_ok-kind-in-None.ensures.some.0 c.in_ok-kind-in-None.ensures.some.1 c.in-None.ensures.none
+    c.in_ok-kind-in-None.ensures.some.0 c.in_ok-kind-in-None.ensures.some.1 c.in-None.ensures.none
