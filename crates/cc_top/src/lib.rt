@@ -14,6 +14,8 @@ mod program;
 mod project;
 mod refusal;
 mod steps;
+#[cfg(test)]
+mod tests;
 mod token;
 mod unit;
 
