@@ -1,6 +1,6 @@
 -- The reader's parts: counts of bytes at the front of a text, the next piece, and how far the loop has come. Only the
 -- clauses of private functions speak of them.
-use Rattle.std.specs.Prelude.{ℕ, zero, suc, ◌≡◌, ◌+◌, ◌<◌, ◌≤◌, max, Bool, true, false, ◌&&◌, ◌||◌, ◌==◌, nat_lt, nat_le, if◌then◌else◌, List, [], ◌∷◌, ◌++◌, length, take, drop, map, Option, Some, None, Result, Ok, Err}
+use Rattle.std.specs.Prelude.{ℕ, zero, suc, ◌≡◌, ◌+◌, ◌<◌, ◌≤◌, max, Bool, true, false, ◌&&◌, ◌||◌, ◌==◌, nat_lt, nat_le, if◌then◌else◌, List, [], ◌∷◌, ◌++◌, length, take, drop, Option, Some, None, Result, Ok, Err}
 use Rattle.cc_tree.specs.declared.place.Spot.{Spot}
 use Rattle.cc_tree.specs.Spots.{start, spot_behind}
 use Rattle.cc_lex.specs.declared.token.Token.{Token}
@@ -12,7 +12,7 @@ use Rattle.cc_lex.specs.declared.step.Fault.{Fault}
 use Rattle.cc_lex.specs.declared.run.Class.{Class}
 use Rattle.cc_lex.specs.declared.run.Class.TheVariants as class
 use Rattle.cc_lex.specs.Bytes.{first, is_letter, is_quote, in_white, in_line, in_name, in_number}
-use Rattle.cc_lex.specs.Spellings.{puncts, digraphs, begins_number, is_token}
+use Rattle.cc_lex.specs.Spellings.{spellings_of, puncts, digraphs, begins_number, is_token}
 use Rattle.cc_lex.specs.Meanings.{faults, meaning}
 use Rattle.cc_lex.specs.Pieces.{Piece, white, comment, line, token, begins, begins_comment, begins_skipped, Cuts, spell, starts_after}
 use Rattle.cc_lex.specs.Faults.{begins_splice, everywhere, IsLeastFault}
@@ -69,13 +69,13 @@ quoted_len [] = 0
 quoted_len (b ∷ z) = if is_quote b then more (closing b false z) else 0
 
 abbrev pub punct_len : List ℕ → ℕ
-punct_len text = first_of (map (λ p. p.0) puncts) text
+punct_len text = first_of (spellings_of puncts) text
 
 abbrev pub digraph_len : List ℕ → ℕ
 digraph_len text = first_of digraphs text
 
 -- the length of the longest token at the front, or 0
-abbrev pub token_len : List ℕ → ℕ
+unfoldable pub token_len : List ℕ → ℕ
 token_len text = max (max (max (max (name_len text) (number_len text)) (quoted_len text)) (punct_len text)) (digraph_len text)
 
 abbrev pub comment_len : List ℕ → ℕ

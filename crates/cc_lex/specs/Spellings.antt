@@ -26,6 +26,10 @@ puncts = map (λ p. (p.0.now, p.1)) PUNCTS
 unfoldable pub digraphs : List (List ℕ)
 digraphs = map (λ d. d.now) DIGRAPHS
 
+-- the spellings of a table
+abbrev pub spellings_of : {A : Type 0} → List (List ℕ × A) → List (List ℕ)
+spellings_of table = map (λ row. row.0) table
+
 -- a keyword or an identifier (6.4.1, 6.4.2.1)
 abbrev pub is_name : List ℕ → Bool
 is_name [] = false
@@ -53,7 +57,7 @@ is_quoted (b ∷ z) = is_quote b && is_closed b false z
 
 -- a punctuator (6.4.6)
 abbrev pub is_punct : List ℕ → Bool
-is_punct w = list_any (λ p. same p w) (map (λ p. p.0) puncts)
+is_punct w = list_any (λ p. same p w) (spellings_of puncts)
 
 -- one of `<: :> <% %> %:`
 abbrev pub is_digraph : List ℕ → Bool

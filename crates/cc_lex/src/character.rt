@@ -1,5 +1,5 @@
 // Characters between quotes, and their escapes.
-ghost use Rattle.std.specs.Prelude.{◌≡◌, ◌≤◌, ◌<◌, ◌-◌, ◌^◌, ◌==◌, length, take, drop, option_map, IfSome, IfOk};
+ghost use Rattle.std.specs.Prelude.{◌≡◌, ◌≤◌, ◌<◌, ◌+◌, ◌-◌, ◌^◌, ◌==◌, if◌then◌else◌, length, take, drop, option_map, IfSome, IfOk};
 ghost use Rattle.cc_lex.specs.Characters as spec;
 ghost use Rattle.cc_lex.specs.Reading.{first_fault, pair_of};
 
@@ -32,14 +32,19 @@ fn simple_escape(b: u8) -> Option<u8>
     }
 }
 
-#[tactic(auto, using(crate::proofs::CharacterLemmas::byte_value_of))]
 fn byte_value(base: u8, digits: &[u8]) -> Option<u8>
     requires { 1 ≤ base }
     ensures { result ≡ spec.byte_value base digits.now }
 {
     match small_value(base, digits) {
-        Some(value) if value <= 255 => Some(value as u8),
-        _ => None,
+        None => None,
+        Some(value) => {
+            if value <= 255 {
+                Some(value as u8)
+            } else {
+                None
+            }
+        }
     }
 }
 
@@ -99,7 +104,11 @@ fn hex_value(z: &[u8]) -> Option<u8>
     ensures { result ≡ (if spec.hex_count z.now == 0 then None else spec.byte_value 16 (take (spec.hex_count z.now) z.now)) }
 {
     let count = hex_count(z);
-    if count == 0 { None } else { byte_value(16, front(z, count)) }
+    if count == 0 {
+        None
+    } else {
+        byte_value(16, front(z, count))
+    }
 }
 
 /// How many bytes the character at the front has.
@@ -132,7 +141,7 @@ pub fn character_value(z: &[u8]) -> Option<u8>
 }
 
 /// The fault of the first faulty escape between quotes.
-#[tactic(auto, using(crate::proofs::CharacterLemmas::faults_here, crate::proofs::CharacterLemmas::faults_later))]
+#[tactic(auto, using(crate::proofs::CharacterLemmas::faults_here))]
 fn bad_escape(mut z: &[u8]) -> Option<Fault>
     requires { length z.now < 2 ^ 63 - 2 }
     ensures value { option_map pair_of result ≡ first_fault (spec.escape_faults (spec.characters 1 0 z.entry.now)) }
@@ -140,12 +149,14 @@ fn bad_escape(mut z: &[u8]) -> Option<Fault>
 {
     let mut at: usize = 1;
     while z.len() != 0 {
-        if character_value(z).is_none() {
-            return Some(Fault { at, rule: 4 });
+        match character_value(z) {
+            None => return Some(Fault { at, rule: 4 }),
+            Some(_) => {
+                let len = character_len(z);
+                at += len;
+                z = back(z, len);
+            }
         }
-        let len = character_len(z);
-        at += len;
-        z = back(z, len);
     }
     None
 }
@@ -161,7 +172,7 @@ pub fn string_fault(w: &[u8]) -> Option<Fault>
 }
 
 /// Whether there is exactly one character.
-#[tactic(auto, using(crate::proofs::CharacterLemmas::one_character))]
+
 fn is_one_character(z: &[u8]) -> bool
     requires { length z.now < 2 ^ 63 }
     ensures { result ≡ (length (spec.characters 1 0 z.now) == 1) }
@@ -185,17 +196,20 @@ pub fn character_fault(w: &[u8]) -> Option<Fault>
 }
 
 /// The values of the characters between quotes.
-#[tactic(auto, using(crate::proofs::CharacterLemmas::values_here))]
+#[tactic(auto, using(crate::proofs::CharacterLemmas::none_more))]
 pub fn values_of(alloc: Global, mut z: &[u8]) -> Result<Vec<u8>, AllocError>
     requires { length z.now < 2 ^ 63 }
     ensures { IfOk result (λ v. v.items ≡ spec.values_of (spec.characters 1 0 z.entry.now)) }
 {
     let mut values = Vec::new(alloc);
     while z.len() != 0 {
-        if let Some(value) = character_value(z) {
-            values.push(value)?;
+        match character_value(z) {
+            None => z = back(z, character_len(z)),
+            Some(value) => {
+                values.push(value)?;
+                z = back(z, character_len(z));
+            }
         }
-        z = back(z, character_len(z));
     }
     Ok(values)
 }

@@ -69,6 +69,7 @@ fn longer(a: usize, b: usize) -> usize
 }
 
 /// How many bytes the longest token at the front has, or 0.
+#[tactic(auto, unfolding(crate::specs::Reading::token_len))]
 pub fn token_len(z: &[u8]) -> usize
     requires { length z.now < 2 ^ 63 }
     ensures { result ≡ spec.token_len z.now }

@@ -6,13 +6,14 @@
 //! byte to byte; what holds of the definitions themselves stands in [`laws`].
 #![tactic(auto)]
 
-mod banned;
 mod byte;
 mod character;
 mod keyword;
+pub mod laws;
 mod length;
 mod meaning;
 mod number;
+mod profile;
 mod punct;
 mod reader;
 mod run;
@@ -20,8 +21,8 @@ mod spot;
 mod step;
 mod token;
 
-pub use banned::banned;
 pub use keyword::Keyword;
+pub use profile::banned;
 pub use punct::Punct;
 pub use reader::lex;
 pub use spot::spot_of;

@@ -1,5 +1,5 @@
 // Integer constants.
-ghost use Rattle.std.specs.Prelude.{◌≡◌, ◌≤◌, ◌<◌, ◌+◌, ◌*◌, ◌^◌, [], ◌∷◌, true, pos, length, option_map, unwrap_or, IfSome};
+ghost use Rattle.std.specs.Prelude.{◌≡◌, ◌≤◌, ◌<◌, ◌+◌, ◌*◌, ◌^◌, if◌then◌else◌, [], ◌∷◌, true, pos, length, option_map, unwrap_or, IfSome};
 ghost use Rattle.std.specs.Option.{SomeIff};
 ghost use Rattle.cc_arith.specs.Kinds.{is_in_range, greatest};
 ghost use Rattle.cc_lex.specs.Bytes.{count_front};
@@ -239,21 +239,56 @@ fn fit_of_rank(
     }
 }
 
+/// The same, if the rank is asked for.
+fn fit_if(
+    is_asked: bool,
+    value: u64,
+    is_unsigned: bool,
+    is_decimal: bool,
+    signed: IntKind,
+    unsigned: IntKind,
+) -> Option<IntKind>
+    ensures { result ≡ spec.first_fit value (if is_asked then spec.types_of_rank is_unsigned is_decimal signed unsigned else []) }
+{
+    if is_asked {
+        fit_of_rank(value, is_unsigned, is_decimal, signed, unsigned)
+    } else {
+        None
+    }
+}
+
 /// The first type that fits, for a suffix with this many `l`.
+#[tactic(auto, using(crate::proofs::TypeLemmas::fit_or))]
 fn first_fit(value: u64, is_unsigned: bool, is_decimal: bool, longs: u8) -> Option<IntKind>
     ensures { result ≡ spec.first_fit value (spec.types_for is_unsigned is_decimal longs) }
 {
-    let rank_of_int = fit_of_rank(value, is_unsigned, is_decimal, IntKind::Int, IntKind::UInt);
-    if longs == 0 && rank_of_int.is_some() {
-        return rank_of_int;
-    }
-    let rank_of_long = fit_of_rank(value, is_unsigned, is_decimal, IntKind::Long, IntKind::ULong);
-    if longs <= 1 && rank_of_long.is_some() {
-        return rank_of_long;
-    }
-    fit_of_rank(value, is_unsigned, is_decimal, IntKind::LLong, IntKind::ULLong)
+    let int = fit_if(
+        longs == 0,
+        value,
+        is_unsigned,
+        is_decimal,
+        IntKind::Int,
+        IntKind::UInt,
+    );
+    let long = fit_if(
+        longs <= 1,
+        value,
+        is_unsigned,
+        is_decimal,
+        IntKind::Long,
+        IntKind::ULong,
+    );
+    let long_long = fit_of_rank(
+        value,
+        is_unsigned,
+        is_decimal,
+        IntKind::LLong,
+        IntKind::ULLong,
+    );
+    int.or(long.or(long_long))
 }
 
+#[tactic(auto, using(crate::proofs::TypeLemmas::none_fit))]
 fn type_with(w: &[u8], suffix: Suffix) -> Option<IntKind>
     ensures { result ≡ spec.type_with w.now (Some suffix) }
 {
@@ -289,7 +324,7 @@ pub fn number_fault(w: &[u8]) -> Option<Fault>
 }
 
 /// The value of a number without faults, and its type.
-#[tactic(auto, using(crate::proofs::TypeLemmas::number_small))]
+#[tactic(auto, using(crate::proofs::FaultLemmas::number_small))]
 pub fn constant(w: &[u8]) -> (u64, IntKind)
     requires sound { IsSound w.now }
     requires number { spellings.begins_number w.now ≡ true }

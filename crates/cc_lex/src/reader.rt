@@ -30,8 +30,9 @@ fn first_anywhere(bytes: &[u8]) -> Option<Fault>
     ensures { MatchOption result (IsClean bytes.now) (λ f. IsFirstAnywhere bytes.now (pair_of f)) }
 {
     for at in 0..bytes.len() {
-        if let Some(rule) = everywhere(back(bytes, at)) {
-            return Some(Fault { at, rule });
+        match everywhere(back(bytes, at)) {
+            None => {}
+            Some(rule) => return Some(Fault { at, rule }),
         }
     }
     None

@@ -3,6 +3,7 @@ ghost use Rattle.std.specs.Prelude.{◌≡◌, ◌≤◌, ◌&&◌, ◌==◌, fa
 ghost use Rattle.cc_lex.specs.Pieces as pieces;
 ghost use Rattle.cc_lex.specs.Reading as spec;
 ghost use Rattle.cc_lex.specs.Reading.{test_of};
+ghost use Rattle.cc_lex.specs.Spellings.{spellings_of};
 
 use crate::byte::{first, is_digit, is_letter, is_white};
 use crate::punct::Punct;
@@ -114,7 +115,7 @@ pub fn begins(mut word: &[u8], mut z: &[u8]) -> bool
 
 /// The length of the first punctuator of the table with which `z` begins, or 0.
 pub fn first_punct(mut table: &[(&[u8], Punct)], z: &[u8]) -> usize
-    ensures { result ≡ spec.first_of (map (λ p. p.0) (map (λ p. (p.0.now, p.1)) table.entry.now)) z.now }
+    ensures { result ≡ spec.first_of (spellings_of (map (λ p. (p.0.now, p.1)) table.entry.now)) z.now }
 {
     while let [entry, rest @ ..] = table {
         if begins(entry.0, z) {

@@ -13,14 +13,9 @@ pub enum TokenKind {
     Keyword(Keyword),
     Identifier(Text),
     /// An integer constant: its value, and the first type that fits.
-    Integer {
-        value: i128,
-        kind: IntKind,
-    },
+    Integer { value: i128, kind: IntKind },
     /// A character constant: the value of its one character as a `char`.
-    Character {
-        value: i128,
-    },
+    Character { value: i128 },
     /// A string literal: its bytes, without the zero that ends it. A byte over 127 stands for a negative `char`.
     Str(Bytes),
     Punct(Punct),

@@ -31,7 +31,10 @@ fn keyword_rule(keyword: Keyword) -> Option<u8>
 fn is_assembly(w: &[u8]) -> bool
     ensures { result ≡ spec.is_assembly w.now }
 {
-    is_same(b"asm", w) || is_same(b"__asm", w) || is_same(b"__asm__", w) || is_same(b"__attribute__", w)
+    is_same(b"asm", w)
+        || is_same(b"__asm", w)
+        || is_same(b"__asm__", w)
+        || is_same(b"__attribute__", w)
 }
 
 fn banned_rule(kind: &TokenKind) -> Option<u8>
@@ -56,8 +59,9 @@ pub fn banned(tokens: &TokenList) -> Option<(u64, u8)>
     ensures { MatchOption result (IsAllowed tokens.now) (λ r. IsFirstBanned tokens.now r.0 r.1) }
 {
     for i in 0..tokens.len() {
-        if let Some(rule) = banned_rule(&tokens.get(i).kind) {
-            return Some((i, rule));
+        match banned_rule(&tokens.get(i).kind) {
+            None => {}
+            Some(rule) => return Some((i, rule)),
         }
     }
     None
