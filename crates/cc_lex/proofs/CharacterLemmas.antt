@@ -5,7 +5,7 @@ use Rattle.std.proofs.lemmas.List.{nil_from_length}
 use Rattle.cc_lex.specs.Bytes.{first}
 use Rattle.cc_lex.specs.Characters.{escape_len, character_len, character_value, characters, values_of, escape_faults}
 use Rattle.cc_lex.specs.Reading.{first_fault}
-use Rattle.cc_lex.proofs.Tests.{cases}
+use Rattle.cc_lex.proofs.Cases.{cases}
 
 -- bytes that belong to the character before are passed
 pub passed : (at left : ℕ) (z : List ℕ) → characters at left z ≡ characters (at + left) 0 (drop left z)

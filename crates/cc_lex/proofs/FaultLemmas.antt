@@ -10,7 +10,7 @@ use Rattle.cc_lex.specs.Characters.{inner, character_len, character_value, chara
 use Rattle.cc_lex.specs.Meanings.{is_prefix, faults}
 use Rattle.cc_lex.specs.Faults.{NotAfter}
 use Rattle.cc_lex.specs.Reading.{IsSound}
-use Rattle.cc_lex.proofs.Tests.{cases}
+use Rattle.cc_lex.proofs.Cases.{cases}
 use Rattle.cc_lex.proofs.TypeLemmas.{none_fit}
 
 pub contained_cases : {X : Type 0} (g x : X) (gs : List X) → Contains (g ∷ gs) x → (g ≡ x) ⊎ Contains gs x

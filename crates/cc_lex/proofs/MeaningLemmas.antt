@@ -6,7 +6,7 @@ use Rattle.std.specs.List.{list_all}
 use Rattle.cc_lex.specs.Ascii.{is_ascii}
 use Rattle.cc_lex.specs.Bytes.{first, is_letter, is_digit, is_quote, in_name, in_number, chain}
 use Rattle.cc_lex.specs.Spellings.{is_token, is_closed, begins_number}
-use Rattle.cc_lex.proofs.Tests.{and_true}
+use Rattle.cc_lex.proofs.Cases.{and_true}
 use Rattle.cc_lex.proofs.Fronts.{class_of, name, number, quoted, punct, digraph, mark_parts, punct_mark, digraph_mark, number_first}
 
 word_ascii : (b : ℕ) → in_name 0 b ≡ true → is_ascii b ≡ true

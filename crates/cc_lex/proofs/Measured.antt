@@ -5,7 +5,7 @@ use Rattle.cc_lex.specs.Bytes.{chain}
 use Rattle.cc_lex.specs.Spellings.{is_closed}
 use Rattle.cc_lex.specs.Pieces.{ends_block}
 use Rattle.cc_lex.specs.Reading.{run, closing, block_len, more}
-use Rattle.cc_lex.proofs.Tests.{cases, and_true, not_true, or_left, or_right}
+use Rattle.cc_lex.proofs.Cases.{cases, and_true, not_true, or_left, or_right}
 
 -- The front of this length passes, and no longer one does.
 pub record Measures (passes : List ℕ → Bool) (n : ℕ) (text : List ℕ) : Type 0 where

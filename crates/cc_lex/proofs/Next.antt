@@ -7,7 +7,7 @@ use Rattle.cc_lex.specs.Meanings.{faults, meaning}
 use Rattle.cc_lex.specs.Pieces.{Piece, white, comment, line, token, bytes_of, is_white_run, is_comment, ends_block, is_line, begins_comment, begins_skipped, Longest, Stands}
 use Rattle.cc_lex.specs.Faults.{NoFront, Faulty, stray, open_comment, open_constant, inside, hash, begins_splice, NotAfter}
 use Rattle.cc_lex.specs.Reading.{run, comment_len, token_len, judged, unread, next}
-use Rattle.cc_lex.proofs.Tests.{cases, and_true}
+use Rattle.cc_lex.proofs.Cases.{cases, and_true}
 use Rattle.cc_lex.proofs.Measured.{Measures}
 use Rattle.cc_lex.proofs.Fronts.{token_measures, token_some, token_first}
 use Rattle.cc_lex.proofs.PieceLemmas.{white_measures, line_measures, comment_measures, one_length, one_front, longest_of, take_drop, drop_front}

@@ -4,7 +4,7 @@ use Rattle.std.proofs.lemmas.Bool.{eqb-true, or_cases, and_from}
 use Rattle.cc_lex.specs.Bytes.{in_white, in_line, chain}
 use Rattle.cc_lex.specs.Pieces.{is_white_run, is_comment, ends_block, is_line, Longest}
 use Rattle.cc_lex.specs.Reading.{run, block_len, plus, comment_len}
-use Rattle.cc_lex.proofs.Tests.{cases, and_true, or_left, or_right}
+use Rattle.cc_lex.proofs.Cases.{cases, and_true, or_left, or_right}
 use Rattle.cc_lex.proofs.Measured.{Measures, run_most, run_chain, run_within, block_most, block_found, block_within, block_some}
 
 white_most : (text : List ℕ) (m : ℕ) → m ≤ length text → is_white_run (take m text) ≡ true → m ≤ run in_white 0 text

@@ -9,7 +9,7 @@ use Rattle.cc_lex.specs.declared.token.LexFault.TheVariants as fault
 use Rattle.cc_lex.specs.Faults.{everywhere, IsClean, NotAfter, IsLeastFault}
 use Rattle.cc_lex.specs.Cut.{Cut, IsRefused}
 use Rattle.cc_lex.specs.Reading.{IsAll, HasStopped, IsFirstAnywhere, sooner}
-use Rattle.cc_lex.proofs.Tests.{cases}
+use Rattle.cc_lex.proofs.Cases.{cases}
 use Rattle.cc_lex.proofs.Whole.{cut_sound, stopped_is, anywhere_is, BeforeAll}
 
 pub all_cut : (bytes : List ℕ) (ts : List Token) → IsClean bytes → IsAll bytes ts → Cut bytes ts

@@ -5,7 +5,7 @@ use Rattle.std.proofs.lemmas.List.Sums.{sum_by-cons}
 use Rattle.cc_tree.specs.declared.place.Spot.{Spot}
 use Rattle.cc_tree.specs.Spots.{start, next_spot, spot_behind}
 use Rattle.cc_lex.specs.Spots.{is_feed, behind_last}
-use Rattle.cc_lex.proofs.Tests.{cases}
+use Rattle.cc_lex.proofs.Cases.{cases}
 
 byte_line : (s : Spot) (b : ℕ) → (next_spot s b).line ≡ s.line + cond (eqb b 10) 1 0
 byte_line s b = elim (cases (eqb b 10)) [ inl e ↦ rw e refl | inr e ↦ rw e (omega arith) ]

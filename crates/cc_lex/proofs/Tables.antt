@@ -6,7 +6,7 @@ use Rattle.cc_lex.specs.Bytes.{first}
 use Rattle.cc_lex.specs.Spellings.{same}
 use Rattle.cc_lex.specs.Pieces.{begins}
 use Rattle.cc_lex.specs.Reading.{first_of}
-use Rattle.cc_lex.proofs.Tests.{cases, and_true}
+use Rattle.cc_lex.proofs.Cases.{cases, and_true}
 use Rattle.cc_lex.proofs.Measured.{Measures}
 
 pub same_is : (a w : List ℕ) → same a w ≡ true → a ≡ w

@@ -9,7 +9,7 @@ use Rattle.cc_arith.specs.declared.kind.IntKind.{IntKind}
 use Rattle.cc_arith.specs.declared.kind.IntKind.TheVariants as kind
 use Rattle.cc_arith.specs.Kinds.{is_in_range, greatest}
 use Rattle.cc_lex.specs.Numbers.{first_fit}
-use Rattle.cc_lex.proofs.Tests.{cases}
+use Rattle.cc_lex.proofs.Cases.{cases}
 
 -- the greatest value of the kind
 abbrev top : IntKind → ℕ

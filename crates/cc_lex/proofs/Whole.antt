@@ -6,7 +6,7 @@ use Rattle.cc_lex.specs.Pieces.{Piece, bytes_of, spell, Stands, Cuts, starts_aft
 use Rattle.cc_lex.specs.Faults.{begins_splice, begins_trigraph, ends_trigraph, everywhere, IsClean, Faulty, LexFaulty, anywhere, piece, IsLeastFault, NotAfter}
 use Rattle.cc_lex.specs.Cut.{IsFaultless}
 use Rattle.cc_lex.specs.Reading.{next, Stopped, IsFirstAnywhere}
-use Rattle.cc_lex.proofs.Tests.{cases, and_true}
+use Rattle.cc_lex.proofs.Cases.{cases, and_true}
 use Rattle.cc_lex.proofs.PieceLemmas.{drop_front}
 use Rattle.cc_lex.proofs.Next.{Found, begun, spliced, err_is, next_again, next_fault, fault_least, piece_some}
 
