@@ -7,11 +7,11 @@ use Rattle.std.proofs.lemmas.Bool.Decides.{nat_tests}
 use Rattle.std.proofs.lemmas.List.Folds.{find-append}
 use Rattle.cc_arith.specs.declared.kind.IntKind.{IntKind}
 use Rattle.cc_arith.specs.declared.kind.IntKind.TheVariants as kind
-use Rattle.cc_arith.specs.Kinds.{is_in_range, greatest}
+use Rattle.cc_arith.specs.Kinds.{is_in_range}
 use Rattle.cc_lex.specs.Numbers.{first_fit}
 use Rattle.cc_lex.proofs.Cases.{cases}
 
--- the greatest value of the kind
+-- the greatest value of the kind, as a number
 abbrev top : IntKind → ℕ
 top kind.Bool = 1
 top kind.Char = 127
@@ -25,20 +25,6 @@ top kind.Long = 9223372036854775807
 top kind.ULong = 18446744073709551615
 top kind.LLong = 9223372036854775807
 top kind.ULLong = 18446744073709551615
-
-greatest_top : (k : IntKind) → greatest k ≡ pos (top k)
-greatest_top kind.Bool = refl
-greatest_top kind.Char = refl
-greatest_top kind.SChar = refl
-greatest_top kind.UChar = refl
-greatest_top kind.Short = refl
-greatest_top kind.UShort = refl
-greatest_top kind.Int = refl
-greatest_top kind.UInt = refl
-greatest_top kind.Long = refl
-greatest_top kind.ULong = refl
-greatest_top kind.LLong = refl
-greatest_top kind.ULLong = refl
 
 no_sign : (n m : ℕ) → leb n m ≡ (leb 0 n && leb n m)
 no_sign n m = grind (arith, nat_tests)
@@ -56,10 +42,6 @@ fits_top kind.Long n = refl
 fits_top kind.ULong n = no_sign n 18446744073709551615
 fits_top kind.LLong n = refl
 fits_top kind.ULLong n = no_sign n 18446744073709551615
-
--- a value up to the greatest one fits
-pub fits_below : (k : IntKind) (n g : ℕ) → pos g ≡ greatest k → leb n g ≡ is_in_range k (pos n)
-fits_below k n g e = let f : pos g ≡ pos (top k) = e ∙ greatest_top k in let h : g ≡ top k = cc in rw h (fits_top k n)
 
 top_small : (k : IntKind) → top k < 2 ^ 64
 top_small kind.Bool = omega arith

@@ -1,7 +1,7 @@
 // Integer constants.
 ghost use Rattle.std.specs.Prelude.{◌≡◌, ◌≤◌, ◌<◌, ◌+◌, ◌*◌, ◌^◌, if◌then◌else◌, [], ◌∷◌, true, pos, length, option_map, unwrap_or, IfSome};
 ghost use Rattle.std.specs.Option.{SomeIff};
-ghost use Rattle.cc_arith.specs.Kinds.{is_in_range, greatest};
+ghost use Rattle.cc_arith.specs.Kinds.{is_in_range};
 ghost use Rattle.cc_lex.specs.Bytes.{count_front};
 ghost use Rattle.cc_lex.specs.Numbers as spec;
 ghost use Rattle.cc_lex.specs.Reading.{first_fault, pair_of, IsSound};
@@ -9,7 +9,7 @@ ghost use Rattle.cc_lex.specs.Spellings as spellings;
 
 use crate::byte::{back, first, front, is_digit, is_hex_digit, is_octal_digit, second};
 use crate::step::Fault;
-use cc_arith::IntKind;
+use cc_arith::{IntKind, range};
 
 /// What a number's suffix says.
 #[derive(Clone, Copy)]
@@ -196,28 +196,11 @@ fn suffix_meaning(z: &[u8]) -> Option<Suffix>
     }
 }
 
-/// The greatest value of the kind.
-fn greatest(kind: IntKind) -> u64
-    ensures { pos result ≡ greatest kind }
-{
-    match kind {
-        IntKind::Bool => 1,
-        IntKind::Char | IntKind::SChar => 127,
-        IntKind::UChar => 255,
-        IntKind::Short => 32767,
-        IntKind::UShort => 65535,
-        IntKind::Int => 2147483647,
-        IntKind::UInt => 4294967295,
-        IntKind::Long | IntKind::LLong => 9223372036854775807,
-        IntKind::ULong | IntKind::ULLong => 18446744073709551615,
-    }
-}
-
-#[tactic(auto, using(crate::proofs::TypeLemmas::fits_below))]
 fn fits(value: u64, kind: IntKind) -> bool
     ensures { result ≡ is_in_range kind (pos value) }
 {
-    value <= greatest(kind)
+    let (least, greatest) = range(kind);
+    least <= i128::from(value) && i128::from(value) <= greatest
 }
 
 /// The first type of one rank that fits.
