@@ -97,7 +97,7 @@ number_ascending : (w : List ℕ) → IsAscending (number_faults w)
 unfolding number_faults
 number_ascending w g gs x e c = with_ascending (digits_of w) (suffix_meaning (suffix_of w)) (type_of w) g gs x e c
 
-with_none : (digits : List ℕ) (s : Option Suffix) (k : Option IntKind) → faults_with digits s k ≡ [] → (j : IntKind) × (k ≡ Some j)
+pub with_none : (digits : List ℕ) (s : Option Suffix) (k : Option IntKind) → faults_with digits s k ≡ [] → (j : IntKind) × (k ≡ Some j)
 with_none digits None k e = absurd cc
 with_none [] (Some s) k e = absurd cc
 with_none (b ∷ z) (Some s) None e = absurd cc
@@ -111,7 +111,7 @@ typed_small w (Some s) k e =
       | inr l ↦ omega (arith, leb-false _ _ l)
     ]
 
-number_sound : (w : List ℕ) (after : ℕ) → faults w after ≡ [] → begins_number w ≡ true → number_faults w ≡ []
+pub number_sound : (w : List ℕ) (after : ℕ) → faults w after ≡ [] → begins_number w ≡ true → number_faults w ≡ []
 unfolding faults
 number_sound w after e n = elim (cases (is_prefix w && is_quote after)) [ inl o ↦ absurd (let none_is : (0, 9) ∷ [] ≡ [] = rw o at e in cc) | inr o ↦ rw (o, n) at e ]
 

@@ -3,14 +3,16 @@ use Rattle.std.proofs.Common.{◌≡◌, ℕ, zero, suc, ◌+◌, Bool, true, Li
 use Rattle.cc_tree.specs.declared.place.Spot.{Spot}
 use Rattle.cc_tree.specs.Spots.{start, next_spot, spot_behind}
 use Rattle.cc_lex.specs.declared.token.Token.{Token}
-use Rattle.cc_lex.specs.Pieces.{Piece, white, comment, line, token, bytes_of, Stands, Cuts, starts_after}
+use Rattle.cc_lex.specs.Pieces.{Piece, white, comment, line, token, bytes_of, spell, Stands, Cuts, starts_after}
 use Rattle.cc_lex.specs.Cut.{Cut, IsFaultless, StandsAt, tokens_from}
+use Rattle.cc_lex.specs.Faults.{IsClean}
 use Rattle.cc_lex.specs.Spots.{spot_at}
 use Rattle.cc_lex.proofs.PieceLemmas.{take_front, drop_front}
 use Rattle.cc_lex.proofs.FaultLemmas.{contained_cases, contains_none}
-use Rattle.cc_lex.proofs.Whole.{one_cut}
+use Rattle.cc_lex.proofs.Whole.{one_cut, cut_sound}
 use Rattle.cc_lex.proofs.Exists.{pieces_exist}
 use Rattle.cc_lex.proofs.Loop.{after_append}
+use Rattle.cc_lex.proofs.Prefixes.{cuts_alone}
 
 pub one_token_list : (bytes : List ℕ) (a b : List Token) → Cut bytes a → Cut bytes b → a ≡ b
 one_token_list bytes a b c d = c.tokens_are ∙ ap (λ ps. tokens_from start ps) (one_cut bytes c.pieces d.pieces c.cuts d.cuts) ∙ sym d.tokens_are
@@ -52,3 +54,9 @@ placed starts (token w k ∷ ps) done text s t (z, is, right, c) e h =
 
 pub token_placed : (bytes : List ℕ) (tokens : List Token) → Cut bytes tokens → (t : Token) → Contains tokens t → (o : ℕ) × StandsAt bytes o t
 token_placed bytes tokens c t h = placed true c.pieces [] bytes start t c.cuts refl (subst (λ ts. Contains ts t) c.tokens_are h)
+
+-- the bytes before the place at which a fault is judged
+pub front_cut : (bytes : List ℕ) (ps : List Piece) (rest : List ℕ) → Cuts true ps bytes rest → IsClean (spell ps) → Cut (spell ps) (tokens_from start ps)
+front_cut bytes ps rest c clean =
+    let alone = cuts_alone true ps bytes rest c in
+    record { faultless = cut_sound (spell ps) ps alone clean; pieces = ps; cuts = alone; tokens_are = refl }

@@ -12,7 +12,7 @@ use Rattle.cc_lex.specs.Numbers.{first_fit}
 use Rattle.cc_lex.proofs.Cases.{cases}
 
 -- the greatest value of the kind, as a number
-abbrev top : IntKind → ℕ
+abbrev pub top : IntKind → ℕ
 top kind.Bool = 1
 top kind.Char = 127
 top kind.SChar = 127
@@ -29,7 +29,7 @@ top kind.ULLong = 18446744073709551615
 no_sign : (n m : ℕ) → leb n m ≡ (leb 0 n && leb n m)
 no_sign n m = grind (arith, nat_tests)
 
-fits_top : (k : IntKind) (n : ℕ) → leb n (top k) ≡ is_in_range k (pos n)
+pub fits_top : (k : IntKind) (n : ℕ) → leb n (top k) ≡ is_in_range k (pos n)
 fits_top kind.Bool n = no_sign n 1
 fits_top kind.Char n = refl
 fits_top kind.SChar n = refl

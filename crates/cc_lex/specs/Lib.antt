@@ -7,6 +7,7 @@ pub mod Pieces
 pub mod Faults
 pub mod Spots
 pub mod Cut
+pub mod Given
 pub mod Banned
 pub mod Ascii
 pub mod Reading
