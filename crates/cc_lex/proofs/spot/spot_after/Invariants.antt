@@ -1,0 +1,13 @@
+use Rattle.std.proofs.Common.{◌≡◌, ◌≤◌, ◌+◌, length}
+use Rattle.cc_tree.specs.Spots.{spot_behind}
+use Rattle.cc_lex.proofs.spot.spot_after.Given as goal
+
+abbrev pub invariant-loop-z : goal.invariant-loop-z
+invariant-loop-z l = record {
+  same : spot_behind l.spot l.z ≡ spot_behind l.initial.spot l.initial.z;
+  line : l.spot.line + length l.z ≤ l.initial.spot.line + length l.initial.z;
+  column : l.spot.column + length l.z ≤ l.initial.spot.column + length l.initial.z;
+}
+
+abbrev pub decreases-loop-z : goal.decreases-loop-z
+decreases-loop-z l = length l.z

@@ -1,0 +1,13 @@
+pub mod Bytes
+pub mod Spellings
+pub mod Numbers
+pub mod Characters
+pub mod Meanings
+pub mod Pieces
+pub mod Faults
+pub mod Spots
+pub mod Cut
+pub mod Given
+pub mod Banned
+pub mod Ascii
+pub mod Reading

@@ -1,0 +1,81 @@
+// Classes of bytes.
+ghost use Rattle.std.specs.Prelude.{◌≡◌, ◌≤◌, take, drop, length};
+ghost use Rattle.cc_lex.specs.Bytes as spec;
+
+pub fn is_digit(b: u8) -> bool
+    ensures { result ≡ spec.is_digit b }
+{
+    b'0' <= b && b <= b'9'
+}
+
+pub fn is_octal_digit(b: u8) -> bool
+    ensures { result ≡ spec.is_octal_digit b }
+{
+    b'0' <= b && b <= b'7'
+}
+
+pub fn is_hex_digit(b: u8) -> bool
+    ensures { result ≡ spec.is_hex_digit b }
+{
+    is_digit(b) || ((b'a' <= b && b <= b'f') || (b'A' <= b && b <= b'F'))
+}
+
+pub fn is_letter(b: u8) -> bool
+    ensures { result ≡ spec.is_letter b }
+{
+    ((b'a' <= b && b <= b'z') || (b'A' <= b && b <= b'Z')) || b == b'_'
+}
+
+pub fn is_quote(b: u8) -> bool
+    ensures { result ≡ spec.is_quote b }
+{
+    b == b'\'' || b == b'"'
+}
+
+pub fn is_white(b: u8) -> bool
+    ensures { result ≡ spec.is_white b }
+{
+    b == b' ' || (9 <= b && b <= 13)
+}
+
+pub fn is_blank(b: u8) -> bool
+    ensures { result ≡ spec.is_blank b }
+{
+    b == b' ' || b == b'\t'
+}
+
+/// The first byte, or 0.
+pub fn first(z: &[u8]) -> u8
+    ensures { result ≡ spec.first z.now }
+{
+    match z {
+        [] => 0,
+        [b, ..] => *b,
+    }
+}
+
+/// The second byte, or 0.
+pub fn second(z: &[u8]) -> u8
+    ensures { result ≡ spec.second z.now }
+{
+    match z {
+        [] => 0,
+        [_, rest @ ..] => first(rest),
+    }
+}
+
+/// The first `len` bytes, or all if there are fewer.
+pub fn front(z: &[u8], len: usize) -> &[u8]
+    ensures value { result.now ≡ take len z.now }
+    ensures within { length result.now ≤ length z.now }
+{
+    if len <= z.len() { &z[..len] } else { z }
+}
+
+/// What follows the first `len` bytes.
+pub fn back(z: &[u8], len: usize) -> &[u8]
+    ensures value { result.now ≡ drop len z.now }
+    ensures within { length result.now ≤ length z.now }
+{
+    if len <= z.len() { &z[len..] } else { &[] }
+}

@@ -1,0 +1,255 @@
+// The rules of `docs/tokens.md` by examples, worked out by hand.
+
+use super::*;
+use cc_tree::Spot;
+use std::alloc::Global;
+use std::test::Fail;
+
+/// Each text, and what `shown` gives.
+const ROWS: [(&[u8], &str); 133] = [
+    // The first fault, and the least rule there.
+    (b"int a = 1.5;", "L6 at 8"),
+    (b"int a; /* x", "L2 at 7"),
+    (b"int a = 18446744073709551616;", "L7 at 8"),
+    (b"int a; #define X", "L9 at 7"),
+    (b"", ""),
+    (b"a @ 08", "L1 at 2"),
+    // The longest token.
+    (b"a+++b", "1:1 a, 1:2 PlusPlus, 1:4 Plus, 1:5 b"),
+    (
+        b">>=>>>",
+        "1:1 ShiftRightEqual, 1:4 ShiftRight, 1:6 Greater",
+    ),
+    (b".....", "1:1 Ellipsis, 1:4 Dot, 1:5 Dot, C13 at token 0"),
+    (b".. .", "1:1 Dot, 1:2 Dot, 1:4 Dot"),
+    (
+        b"x->y-->=z",
+        "1:1 x, 1:2 Arrow, 1:4 y, 1:5 MinusMinus, 1:7 GreaterEqual, 1:9 z",
+    ),
+    (b"intx int", "1:1 intx, 1:6 Int"),
+    // Numbers.
+    (b"1e+5", "L6 at 0"),
+    (b"0x1p-3", "L6 at 0"),
+    (b"0xe+1", "L6 at 0"),
+    (b"0x1f+1", "1:1 31 Int, 1:5 Plus, 1:6 1 Int"),
+    (b"a.5", "L6 at 1"),
+    (b"1..2", "L6 at 0"),
+    (b"08", "L6 at 0"),
+    (b"0x", "L6 at 0"),
+    (b"0b1", "L6 at 0"),
+    (b"12ab", "L6 at 0"),
+    (b"1lL", "L6 at 0"),
+    (b"1lul", "L6 at 0"),
+    (b"1uu", "L6 at 0"),
+    (b"1uLL", "1:1 1 ULLong"),
+    (b"1LLU", "1:1 1 ULLong"),
+    (b"1Lu", "1:1 1 ULong"),
+    (b"0 017 0X1F", "1:1 0 Int, 1:3 15 Int, 1:7 31 Int"),
+    (b"0xFFFFFFFF", "1:1 4294967295 UInt"),
+    (b"4294967295", "1:1 4294967295 Long"),
+    (
+        b"2147483647 2147483648 2147483648u",
+        "1:1 2147483647 Int, 1:12 2147483648 Long, 1:23 2147483648 UInt",
+    ),
+    (
+        b"0x80000000 0100000000000 4294967296U",
+        "1:1 2147483648 UInt, 1:12 8589934592 Long, 1:26 4294967296 ULong",
+    ),
+    (
+        b"0x8000000000000000 0x8000000000000000l 0xffffffffffffffffLL",
+        "1:1 9223372036854775808 ULong, 1:20 9223372036854775808 ULong, 1:40 18446744073709551615 ULLong",
+    ),
+    (b"1l 1ll", "1:1 1 Long, 1:4 1 LLong"),
+    (
+        b"9223372036854775807 18446744073709551615u",
+        "1:1 9223372036854775807 Long, 1:21 18446744073709551615 ULong",
+    ),
+    (b"9223372036854775808", "L7 at 0"),
+    (b"0x10000000000000000", "L7 at 0"),
+    // Character constants.
+    (
+        b"'a' '\\0' '\"' '\\''",
+        "1:1 '97', 1:5 '0', 1:10 '34', 1:14 '39'",
+    ),
+    (
+        b"'\\377' '\\200' '\\x7f' '\\x80'",
+        "1:1 '-1', 1:8 '-128', 1:15 '127', 1:22 '-128'",
+    ),
+    (
+        b"'\\a' '\\b' '\\f' '\\n' '\\r' '\\t' '\\v'",
+        "1:1 '7', 1:6 '8', 1:11 '12', 1:16 '10', 1:21 '13', 1:26 '9', 1:31 '11'",
+    ),
+    (
+        b"'\\?' '\\\\' '\xe9' '\\1'",
+        "1:1 '63', 1:6 '92', 1:11 '-23', 1:15 '1'",
+    ),
+    (b"'ab'", "L5 at 0"),
+    (b"''", "L5 at 0"),
+    (b"'\\08'", "L5 at 0"),
+    (b"'\\1234'", "L5 at 0"),
+    (b"'\\q'", "L4 at 1"),
+    (b"'\\x'", "L4 at 1"),
+    (b"'\\400'", "L4 at 1"),
+    (b"'\\x100'", "L4 at 1"),
+    (b"'\\qa'", "L5 at 0"),
+    (b"'\\xg'", "L5 at 0"),
+    (b"'\\4000'", "L5 at 0"),
+    (b" 'a", "L3 at 1"),
+    (b"'\\'", "L3 at 0"),
+    // String literals.
+    (
+        b"\"\" \"a\\x41\\101'\\\"\" \"\xff\"",
+        "1:1 [], 1:4 [97, 65, 65, 39, 34], 1:19 [255]",
+    ),
+    (b"\"\\0012\\x0a\"", "1:1 [1, 50, 10]"),
+    (b"\"\\400\"", "L4 at 1"),
+    (b"x = \"ab\\xfff\"", "L4 at 7"),
+    (b"\"a\\qb\\x\"", "L4 at 2"),
+    (b"f(\"ab\n\")", "L3 at 2"),
+    (b"\"ab", "L3 at 0"),
+    (b"\"a\\\n\"", "L3 at 0"),
+    (b"\"a\\", "L3 at 0"),
+    (b"\"a\\\r\n\"", "L3 at 0"),
+    // Prefixes.
+    (b"a = L\"x\";", "L9 at 4"),
+    (b"u8\"x\"", "L9 at 0"),
+    (b"u8'x'", "L9 at 0"),
+    (b"U'x", "L9 at 0"),
+    (b"u'ab'", "L9 at 0"),
+    (b"L \"x\" xL'a'", "1:1 L, 1:3 [120], 1:7 xL, 1:9 '97'"),
+    (b"10L'a'", "1:1 10 Long, 1:4 '97'"),
+    // Comments.
+    (
+        b"\"/* */\" \"//\"",
+        "1:1 [47, 42, 32, 42, 47], 1:9 [47, 47]",
+    ),
+    (b"a/**/b/*/*/c // d", "1:1 a, 1:6 b, 1:12 c"),
+    (b"/* \xff ' \" @ */;", "1:14 Semicolon"),
+    (b"// \xff\n;", "2:1 Semicolon"),
+    (b"/*/", "L2 at 0"),
+    (b"a/ *b", "1:1 a, 1:2 Slash, 1:4 Star, 1:5 b"),
+    // Skipped lines.
+    (b"# 1 \"a.c\"\n;", "2:1 Semicolon"),
+    (b" \t#\t pragma once ' @\n;", "2:1 Semicolon"),
+    (b"#line 5\n#1x\n#pragma\n;", "4:1 Semicolon"),
+    (b"#liner", "L9 at 0"),
+    (b"#pragma_once", "L9 at 0"),
+    (b"a # 1", "L9 at 2"),
+    (b"/* */ # 1", "L9 at 6"),
+    (b"\x0b# 1", "L9 at 1"),
+    (b"#", "L9 at 0"),
+    (b"# include", "L9 at 0"),
+    (b"#pragma /*\n;", "2:1 Semicolon"),
+    // Splices and trigraphs.
+    (b"/* a\\\nb */", "L8 at 4"),
+    (b"/* a\\\r\nb */", "L8 at 4"),
+    (b"#pragma \\\n", "L8 at 8"),
+    (b"a \\\n@", "L8 at 2"),
+    (b"@ \\\n", "L1 at 0"),
+    (b"/* \\\n", "L2 at 0"),
+    (b"x = \"ab??=\";", "L9 at 7"),
+    (b"// ???/", "L9 at 4"),
+    (b"a ??> ??(b", "L9 at 2"),
+    (b"a??b??=:", "L9 at 4"),
+    (
+        b"a??b??:",
+        "1:1 a, 1:2 Question, 1:3 Question, 1:4 b, 1:5 Question, 1:6 Question, 1:7 Colon",
+    ),
+    // Digraphs.
+    (b"a<:0:>", "L9 at 1"),
+    (b"<::", "L9 at 0"),
+    (b"a <<: b", "1:1 a, 1:3 ShiftLeft, 1:5 Colon, 1:7 b"),
+    (b"a %= b %> c", "L9 at 7"),
+    (b"%:", "L9 at 0"),
+    // Stray bytes.
+    (b"a\x80", "L1 at 1"),
+    (b"\\ a", "L1 at 0"),
+    (b"a\\\r", "L1 at 1"),
+    (b"a\0", "L1 at 1"),
+    (b"$", "L1 at 0"),
+    // White bytes, lines and columns.
+    (b"\ta \x0b\x0c\r\n  b\n\nc", "1:2 a, 2:3 b, 4:1 c"),
+    // What the profile doesn't have.
+    (
+        b"asm x; goto y;",
+        "1:1 asm, 1:5 x, 1:6 Semicolon, 1:8 Goto, 1:13 y, 1:14 Semicolon, C14 at token 0",
+    ),
+    (
+        b"_Static_assert union __asm",
+        "1:1 StaticAssert, 1:16 Union, 1:22 __asm, C12 at token 0",
+    ),
+    (
+        b"int __attribute__",
+        "1:1 Int, 1:5 __attribute__, C14 at token 1",
+    ),
+    (
+        b"Float __asm__x floats __Bool",
+        "1:1 Float, 1:7 __asm__x, 1:16 floats, 1:23 __Bool",
+    ),
+    (b"float", "1:1 Float, C1 at token 0"),
+    (b"double", "1:1 Double, C1 at token 0"),
+    (b"_Complex", "1:1 Complex, C1 at token 0"),
+    (b"_Imaginary", "1:1 Imaginary, C1 at token 0"),
+    (b"union", "1:1 Union, C2 at token 0"),
+    (b"goto", "1:1 Goto, C3 at token 0"),
+    (b"volatile", "1:1 Volatile, C4 at token 0"),
+    (b"restrict", "1:1 Restrict, C5 at token 0"),
+    (b"register", "1:1 Register, C6 at token 0"),
+    (b"auto", "1:1 Auto, C6 at token 0"),
+    (b"_Atomic", "1:1 Atomic, C7 at token 0"),
+    (b"_Thread_local", "1:1 ThreadLocal, C8 at token 0"),
+    (b"_Alignas", "1:1 Alignas, C9 at token 0"),
+    (b"_Alignof", "1:1 Alignof, C9 at token 0"),
+    (b"_Generic", "1:1 Generic, C10 at token 0"),
+    (b"_Noreturn", "1:1 Noreturn, C11 at token 0"),
+    (b"_Static_assert", "1:1 StaticAssert, C12 at token 0"),
+    (b"__asm__", "1:1 __asm__, C14 at token 0"),
+];
+
+/// A token, as the rows write it.
+fn shown_token(alloc: Global, token: &Token) -> Result<String, Fail> {
+    let Spot { line, column } = token.spot;
+    let text = match &token.kind {
+        TokenKind::Keyword(keyword) => format!(in alloc; "{line}:{column} {keyword:?}")?,
+        TokenKind::Identifier(name) => format!(in alloc; "{line}:{column} {name}")?,
+        TokenKind::Integer { value, kind } => format!(in alloc;
+            "{line}:{column} {value} {kind:?}"
+        )?,
+        TokenKind::Character { value } => format!(in alloc; "{line}:{column} '{value}'")?,
+        TokenKind::Str(bytes) => format!(in alloc; "{line}:{column} {:?}", bytes.bytes())?,
+        TokenKind::Punct(punct) => format!(in alloc; "{line}:{column} {punct:?}")?,
+    };
+    Ok(text)
+}
+
+/// What `lex` and `banned` answer.
+fn shown(alloc: Global, bytes: &[u8]) -> Result<String, Fail> {
+    if bytes.len() > 1048576 {
+        return Ok(format!(in alloc; "too long")?);
+    }
+    let tokens = match lex(alloc, bytes) {
+        Ok(tokens) => tokens,
+        Err(LexFault::At { offset, rule }) => return Ok(format!(in alloc; "L{rule} at {offset}")?),
+        Err(LexFault::Memory) => return Ok(format!(in alloc; "no memory")?),
+    };
+    let mut text = String::new(alloc);
+    for i in 0..tokens.len() {
+        if i != 0 {
+            text.push_str(", ")?;
+        }
+        text.push_str(shown_token(alloc, tokens.get(i))?.as_str())?;
+    }
+    if let Some((index, rule)) = banned(&tokens) {
+        text.push_str(format!(in alloc; ", C{rule} at token {index}")?.as_str())?;
+    }
+    Ok(text)
+}
+
+#[test]
+fn cuts_texts(rt: HostRuntime) -> Result<(), Fail> {
+    for (bytes, want) in ROWS {
+        let text = shown(rt.alloc(), bytes)?;
+        assert_eq!(rt; text.as_str(), want, "{bytes:?}");
+    }
+    Ok(())
+}
