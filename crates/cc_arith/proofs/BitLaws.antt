@@ -1,20 +1,20 @@
 -- Values and their bits: what a conversion and the operators on bits do to each bit.
 use Rattle.std.specs.Prelude.{if◌then◌else◌}
-use Rattle.std.proofs.Common.{inl, inr, ◌≡◌, ℕ, zero, suc, ◌+◌, ◌-◌, ◌*◌, ◌/◌, ◌%◌, ◌^◌, ◌<◌, ◌≤◌, min, max, ℤ, pos, negsuc, ◌+ℤ◌, ◌-ℤ◌, ◌*ℤ◌, FitsSigned, unsigned_abs, bit_and, bit_or, bit_xor, refl, sym, ap, ◌∙◌, arith, lit<}
+use Rattle.std.proofs.Common.{inl, inr, ◌≡◌, ℕ, zero, suc, ◌+◌, ◌-◌, ◌*◌, ◌/◌, ◌%◌, ◌^◌, ◌<◌, ◌≤◌, min, max, ℤ, pos, negsuc, ◌+ℤ◌, ◌-ℤ◌, FitsSigned, unsigned_abs, bit_and, bit_or, bit_xor, refl, sym, ap, ◌∙◌, arith, lit<}
 use mir.Val.{bits}
-use Rattle.std.specs.Int.{Width, w8, w16, w32, w64, w128, bit_at, bit_not, cast_unsigned, cast_signed, int_rem_euclid, int_div_euclid, int_bit_and, int_bit_or, int_bit_xor}
+use Rattle.std.specs.Int.{Width, w8, w16, w32, w64, w128, bit_at, cast_unsigned, cast_signed, int_rem_euclid, int_div_euclid, int_bit_and, int_bit_or, int_bit_xor}
 use Rattle.std.proofs.lemmas.Int.{ints, of_z-to_z}
 use Rattle.std.proofs.lemmas.Nat.{mod_below, div-add-mod', and_le_l, or_lt, xor_lt}
 use Rattle.std.proofs.Math.Facts.{sfits_to_z}
 use Rattle.std.proofs.lemmas.Nat.Bits.{bit_at-lt, bit_at_lowest, bit_at_and, bit_at_or, bit_at_xor, bit_at_not, bit_at_cat_low, bit_at_cat_high, same_from_bits_below}
 use Rattle.std.proofs.Math.Nat.{mod-eq_of_lt, pow-suc, eq-or-lt_of_le}
 use Rattle.cc_arith.specs.declared.kind.IntKind.{IntKind}
-use Rattle.cc_arith.specs.declared.kind.IntKind.TheVariants.{Bool as BoolKind, Char, SChar, UChar, Short, UShort, Int, UInt, Long, ULong, LLong, ULLong}
+use Rattle.cc_arith.specs.declared.kind.IntKind.TheVariants.{Bool as BoolKind, Char, SChar, UChar, Short, UShort, Int, UInt, ULong, ULLong}
 use Rattle.cc_arith.specs.Kinds.{width_of, is_signed, least, greatest, IsInRange}
 use Rattle.cc_arith.specs.Promotions.{promoted, IsPromoted}
 use Rattle.cc_arith.specs.Conversions.{converted, IsSameModulo}
 use Rattle.cc_arith.specs.Bits.{bit_of, sum_of_bits, value_with, and_of, or_of, xor_of, complement_of}
-use Rattle.cc_arith.proofs.Remainders.{rem_bounds, euclid, rem_of_same}
+use Rattle.cc_arith.proofs.Remainders.{euclid, rem_of_same}
 use Rattle.cc_arith.proofs.ConversionLaws.{promoted_not_bool, some_values, converted_within, converted_same, converted_modulo, converted_of_same}
 
 -- ---- the bits of a number that is reduced

@@ -1,11 +1,11 @@
 -- The laws of conversion: the result is a value of the kind, equals what was converted modulo 2 ^ width, and no other value does.
-use Rattle.std.proofs.Common.{◌≡◌, ℕ, zero, suc, ◌^◌, ◌<◌, ℤ, pos, negsuc, ◌+ℤ◌, ◌-ℤ◌, ◌*ℤ◌, sym, ap, ◌∙◌, refl, arith, lit<}
-use Rattle.std.specs.Int.{int_rem_euclid, int_div_euclid}
+use Rattle.std.proofs.Common.{◌≡◌, zero, suc, ◌^◌, ◌<◌, ℤ, pos, negsuc, ◌+ℤ◌, ◌-ℤ◌, ◌*ℤ◌, sym, ap, ◌∙◌, refl, arith, lit<}
+use Rattle.std.specs.Int.{int_div_euclid}
 use Rattle.std.proofs.lemmas.Int.{ints}
 use Rattle.cc_arith.specs.declared.kind.IntKind.{IntKind}
 use Rattle.cc_arith.specs.declared.kind.IntKind.TheVariants.{Bool as BoolKind}
 use Rattle.cc_arith.specs.Kinds.{width_of, least, IsInRange}
-use Rattle.cc_arith.specs.Promotions.{promoted, IsPromoted}
+use Rattle.cc_arith.specs.Promotions.{IsPromoted}
 use Rattle.cc_arith.specs.Conversions.{reduced, converted, IsSameModulo}
 use Rattle.cc_arith.proofs.Remainders.{rem_bounds, rem_same, euclid, rem_of_same}
 

@@ -1,5 +1,5 @@
 -- The laws of the operators' results: each is a value of its kind, and has the bits that it should.
-use Rattle.std.proofs.Common.{◌≡◌, ◌⊎◌, inl, inr, ℕ, suc, ◌^◌, ◌<◌, ℤ, pos, negsuc, neg_ℤ, ◌+ℤ◌, ◌-ℤ◌, ◌*ℤ◌, ◌≤ℤ◌, Bool, true, false, Result, Ok, Err, IfOk, cond, unsigned_abs, int_lt, int_le, ◌&&◌, int_div, int_rem, refl, arith}
+use Rattle.std.proofs.Common.{◌≡◌, inl, inr, ℕ, suc, ◌^◌, ℤ, pos, negsuc, neg_ℤ, ◌+ℤ◌, ◌-ℤ◌, ◌*ℤ◌, ◌≤ℤ◌, Bool, true, false, Result, Ok, Err, IfOk, cond, unsigned_abs, int_lt, int_le, ◌&&◌, int_div, int_rem, refl, arith}
 use Rattle.std.specs.Int.{int_div_euclid}
 use Rattle.std.proofs.lemmas.Int.{ints}
 use Rattle.std.proofs.Math.Nat.{div-le_self, mod-le}
@@ -12,7 +12,7 @@ use Rattle.cc_arith.specs.declared.unary_operator.IntUnary.TheVariants.{Plus, Mi
 use Rattle.cc_arith.specs.declared.undefined.ArithUndef.{ArithUndef}
 use Rattle.cc_arith.specs.declared.undefined.ArithUndef.TheVariants.{Overflow, ShiftNegative, ShiftCount}
 use Rattle.cc_arith.specs.Kinds.{width_of, is_signed, is_in_range, least, greatest, IsInRange}
-use Rattle.cc_arith.specs.Promotions.{promoted, IsPromoted}
+use Rattle.cc_arith.specs.Promotions.{IsPromoted}
 use Rattle.cc_arith.specs.Conversions.{converted, is_zero}
 use Rattle.cc_arith.specs.Operators.{represented, computed, shifted, shifted_left, truth_of, binary_of, unary_of, binary_kind_of, unary_kind_of, IsRightOperand}
 use Rattle.cc_arith.specs.Laws.{IsTruth, TruthIfCompared, TruthIfNot, BitsFollow, BitsInverted}

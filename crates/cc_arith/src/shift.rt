@@ -1,8 +1,8 @@
 // Shifts, whose count has a kind of its own.
 
-ghost use Rattle.std.specs.Prelude.{◌≡◌, ◌^◌, pos, ◌*ℤ◌, unsigned_abs, Ok};
+ghost use Rattle.std.specs.Prelude.{◌≡◌, ◌^◌, ◌&&◌, pos, ◌*ℤ◌, int_le, int_lt, unsigned_abs, Ok};
 ghost use Rattle.std.specs.Int.{int_div_euclid};
-ghost use Rattle.cc_arith.specs.Kinds.{IsInRange};
+ghost use Rattle.cc_arith.specs.Kinds.{width_of, IsInRange};
 ghost use Rattle.cc_arith.specs.Operators.{shifted, shifted_left};
 
 use crate::conversion::value_in;
@@ -15,7 +15,7 @@ pub(crate) fn shift_left(k: IntKind, a: i128, b: i128) -> Result<i128, ArithUnde
     requires left { IsInRange k a }
     ensures { result ≡ shifted k b (shifted_left k a (a *ℤ pos (2 ^ unsigned_abs b))) }
 {
-    if b < 0 || b >= width(k) as i128 {
+    if !is_count(k, b) {
         return Err(ArithUndef::ShiftCount);
     }
     if has_sign(k) {
@@ -32,8 +32,15 @@ pub(crate) fn shift_right(k: IntKind, a: i128, b: i128) -> Result<i128, ArithUnd
     requires left { IsInRange k a }
     ensures { result ≡ shifted k b (Ok (int_div_euclid a (pos (2 ^ unsigned_abs b)))) }
 {
-    if b < 0 || b >= width(k) as i128 {
+    if !is_count(k, b) {
         return Err(ArithUndef::ShiftCount);
     }
     Ok(over_power(a, b as u32))
+}
+
+// The counts that C allows are those from 0 to the width less 1.
+fn is_count(k: IntKind, b: i128) -> bool
+    ensures { result ≡ (int_le (pos 0) b && int_lt b (pos (width_of k))) }
+{
+    0 <= b && b < width(k) as i128
 }

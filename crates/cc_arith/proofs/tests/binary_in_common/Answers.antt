@@ -1,0 +1,10 @@
+use Rattle.std.proofs.Common.{FitsSigned}
+use Rattle.std.specs.Int.{w128}
+use Rattle.std.proofs.lemmas.Int.{to_z-of_z}
+use Rattle.cc_arith.proofs.ResultLaws.{right_operand}
+use Rattle.cc_arith.proofs.tests.binary_in_common.Goals as goal
+
+pub binary-requires-clause-right : goal.binary-requires-clause-right
+binary-requires-clause-right c =
+    let fits : FitsSigned w128 c.convert-right.result = record { sfits = c.convert-right.type_inv } in
+    simp to_z-of_z (right_operand c.args.op c.args.k c.convert-right.result c.convert-right.ensures.within)
