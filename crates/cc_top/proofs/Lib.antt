@@ -3,6 +3,8 @@ pub mod ListingNames
 pub mod ListingSteps
 pub mod ListingText
 pub mod NamePlain
+pub mod OneAnswer
+pub mod OneListing
 pub mod ProjectNames
 pub mod TokenLaws
 pub mod TokenSteps

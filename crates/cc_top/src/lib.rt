@@ -8,6 +8,7 @@
 #![tactic(auto)]
 
 mod call;
+pub mod laws;
 mod listing;
 mod paths;
 mod program;
