@@ -1,2 +1,4 @@
 pub mod TokenLaws
 pub mod TokenSteps
+pub mod UnitFronts
+pub mod UnitReads
