@@ -6,7 +6,7 @@ use Rattle.cc_tree.specs.declared.place.Spot.{Spot}
 use Rattle.cc_tree.specs.Program.{Name}
 use Rattle.cc_top.specs.Names.{is_free_name}
 use Rattle.cc_top.specs.Cut.{Spelled}
-use Rattle.cc_top.specs.Unit.{Part, Declaration, Definition, word, call_tokens, part_tokens, unit_tokens}
+use Rattle.cc_top.specs.Unit.{CallsStand, Part, Declaration, Definition, word, call_tokens, part_tokens, unit_tokens}
 use Rattle.cc_top.specs.Tokens.{mark_byte, AreTokens, Begins, AreWritten}
 use Rattle.cc_top.specs.declared.token.Mark.{Mark}
 use Rattle.cc_top.specs.declared.token.Mark.TheVariants.{OpenParen, CloseParen, Semicolon}
@@ -130,6 +130,14 @@ abbrev pub head_text : Part → List ℕ
 head_text (Declaration name) = name.text
 head_text (Definition name calls) = name.text
 
-abbrev pub calls_in : Part → List Name
-calls_in (Declaration name) = []
-calls_in (Definition name calls) = calls
+-- each call of the part is among the heads
+abbrev pub calls_among : List (List ℕ) → Part → Bool
+calls_among heads (Declaration name) = true
+calls_among heads (Definition name calls) = list_all (λ call. is_among heads call.text) calls
+
+-- the calls of all parts stand, if those of the rest do behind the parts so far, whose names are the keys
+pub record StandTo (parts rest : List Part) (keys : List (List ℕ)) : Type 0 where
+  pub heads : List (List ℕ)
+  pub same : (text : List ℕ) → is_among keys text ≡ is_among heads text
+  pub back : CallsStand heads rest → CallsStand [] parts
+  pub forth : CallsStand [] parts → CallsStand heads rest

@@ -1,5 +1,5 @@
 // The parts of a C file of the first form.
-ghost use Rattle.std.specs.Prelude.{◌≡◌, ◌≤◌, ◌<◌, ◌^◌, List, length, drop, map, option_map, IfOk, IfSome, IfNone};
+ghost use Rattle.std.specs.Prelude.{◌≡◌, ◌≤◌, ◌<◌, ◌^◌, ◌↔◌, IsTrue, List, [], length, drop, map, option_map, IfOk, IfSome, IfNone};
 ghost use Rattle.std.specs.List.{list_all};
 ghost use Rattle.cc_top.specs.Tokens.{AreTokens};
 ghost use Rattle.cc_top.specs.Reads as reads;
@@ -186,20 +186,48 @@ fn read_parts<'a>(
     Ok(Some(parts))
 }
 
+// The name of a part.
+fn head_text<'a>(part: &Part<'a>) -> &'a str
+    ensures { result.now ≡ reads.head_text (part_view part.now) }
+{
+    match part {
+        Part::Declaration(head) => head.text,
+        Part::Definition(head, _) => head.text,
+    }
+}
+
+// Whether this is the name of one of these heads.
+fn is_known(heads: &IndexSet<&str>, name: &Name<'_>) -> bool
+    ensures { result ≡ reads.is_among (map (λ key. key.now) heads.now.keys) name.now.text.now }
+{
+    heads.contains(name.text)
+}
+
+fn are_known(heads: &IndexSet<&str>, names: &[Name<'_>]) -> bool
+    ensures { result ≡ list_all (λ name. reads.is_among (map (λ key. key.now) heads.now.keys) name.text.now) names.now }
+{
+    names.iter().all(|name| is_known(heads, name))
+}
+
+// Whether each call of the part is of one of these heads.
+fn calls_known(heads: &IndexSet<&str>, part: &Part<'_>) -> bool
+    ensures { result ≡ reads.calls_among (map (λ key. key.now) heads.now.keys) (part_view part.now) }
+{
+    match part {
+        Part::Declaration(_) => true,
+        Part::Definition(_, calls) => are_known(heads, calls),
+    }
+}
+
 // Whether each called name stands earlier in the file as the name of a part, that of its own function included.
-fn calls_stand(alloc: Global, parts: &[Part<'_>]) -> Result<bool, AllocError> {
+fn calls_stand(alloc: Global, parts: &[Part<'_>]) -> Result<bool, AllocError>
+    ensures { IfOk result (λ holds. IsTrue holds ↔ unit.CallsStand [] (parts_view parts.now)) }
+{
     let mut heads = IndexSet::new(alloc);
     for part in parts {
-        match part {
-            Part::Declaration(head) => {
-                heads.insert(head.text)?;
-            }
-            Part::Definition(head, calls) => {
-                heads.insert(head.text)?;
-                if !calls.iter().all(|call| heads.contains(call.text)) {
-                    return Ok(false);
-                }
-            }
+        heads.insert(head_text(part))?;
+        if !calls_known(&heads, part) {
+            return Ok(false);
         }
     }
     Ok(true)

@@ -7,7 +7,7 @@ use Rattle.cc_top.proofs.unit.part_len.Goals as goal
 
 len_is : (c : goal.After-len) → length (part_tokens (part_view c.args.part.now)) ≡ 7 + 4 * c.len.result
 len_is c =
-    let n : length (map name_view c.in-Definition.calls.items) ≡ c.len.result = omega (arith, length-map name_view c.in-Definition.calls.items, c.in-Definition.calls.ok, c.len.ensures) in
+    let n : length (map name_view c.in-Definition.calls.items) ≡ c.len.result = omega (arith, length-map c.in-Definition.calls.items name_view, c.in-Definition.calls.ok, c.len.ensures) in
     rw c.in-Definition.is (definition_len (name_view c.in-Definition.field-0) (map name_view c.in-Definition.calls.items) ∙ ap (λ (k : ℕ). 7 + 4 * k) n)
 
 pub overflow_mul-result : goal.overflow_mul-result
