@@ -1,6 +1,7 @@
 -- Bodies and parts at the front of the tokens.
-use Rattle.std.proofs.Common.{◌≡◌, ◌≢◌, ℕ, zero, suc, ◌+◌, ◌*◌, ◌≤◌, ◌<◌, Bool, true, false, List, [], ◌∷◌, ◌++◌, length, length-append, drop, map, refl, sym, ap, subst, ◌∙◌, append_assoc, arith}
+use Rattle.std.proofs.Common.{◌≡◌, ◌≢◌, ℕ, zero, suc, ◌+◌, ◌*◌, ◌≤◌, ◌<◌, Bool, true, false, eqb, List, [], ◌∷◌, ◌++◌, length, length-append, drop, map, refl, sym, ap, subst, ◌∙◌, append_assoc, arith}
 use Rattle.std.proofs.lemmas.List.{append-nil, length-map}
+use Rattle.std.proofs.lemmas.Bool.{eqb-true}
 use Rattle.std.proofs.lemmas.Grind.{flat_map-append}
 use Rattle.std.specs.Prelude.{codes, Option, Some, None}
 use Rattle.std.specs.List.{flat_map}
@@ -234,3 +235,17 @@ body_len (c ∷ calls) = omega (arith, body_len calls)
 
 pub definition_len : (name : Name) (calls : List Name) → length (part_tokens (Definition name calls)) ≡ 7 + 4 * length calls
 definition_len name calls = omega (arith, body_len calls)
+
+pub head_len : (tokens : List Token) (name : Name) → AreTokens tokens → head_at tokens ≡ Some name → 5 ≤ length tokens
+head_len tokens name k e = begins_len tokens (drop 5 tokens) (head_tokens name) (head_sound tokens name k e).begins
+
+pub part_fits : (tokens : List Token) (part : Part) → IsPart tokens part → length (part_tokens part) ≤ length tokens
+part_fits tokens part p = begins_len tokens (drop (length (part_tokens part)) tokens) (part_tokens part) p.begins
+
+pub some_of : (n : ℕ) → eqb n 0 ≡ false → 1 ≤ n
+some_of zero e = absurd cc
+some_of (suc n) e = omega arith
+
+pub parts_end_at : (tokens : List Token) (parts : List Part) (rest : List Token) → ArePartsTo tokens parts rest → eqb (length rest) 0 ≡ true → AreParts tokens parts
+parts_end_at tokens parts [] r e = parts_end tokens parts r
+parts_end_at tokens parts (t ∷ rest) r e = absurd (let n : suc (length rest) ≡ 0 = eqb-true (suc (length rest)) 0 e in omega arith)

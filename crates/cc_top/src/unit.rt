@@ -170,7 +170,8 @@ fn read_parts<'a>(
     alloc: Global,
     tokens: &[Token<'a>],
 ) -> Result<Option<Vec<Part<'a>>>, AllocError>
-    requires { AreTokens tokens.now }
+    requires kinds { AreTokens tokens.now }
+    requires small { length tokens.now < 2 ^ 63 }
     ensures some { IfOk result (λ read. IfSome read (λ parts. reads.AreParts tokens.now (parts_view parts.items))) }
     ensures none { IfOk result (λ read. IfNone read (reads.NoParts tokens.now)) }
 {
