@@ -9,4 +9,8 @@ pub mod ProjectNames
 pub mod TokenLaws
 pub mod TokenSteps
 pub mod Told
+pub mod UnitFronts
+pub mod UnitJoin
+pub mod UnitReads
+pub mod UnitStands
 pub mod WordFacts
