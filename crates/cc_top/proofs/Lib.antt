@@ -1,0 +1,4 @@
+pub mod ProgramLinked
+pub mod ProgramNames
+pub mod ProgramParts
+pub mod ProgramRefused
