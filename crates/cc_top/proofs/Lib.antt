@@ -1,3 +1,9 @@
+pub mod PathEdges
+pub mod PathExact
+pub mod PathPlaces
+pub mod PathPoints
+pub mod PathRows
+pub mod PathSites
 pub mod ProgramLinked
 pub mod ProgramNames
 pub mod ProgramParts

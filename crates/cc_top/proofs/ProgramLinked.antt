@@ -59,9 +59,14 @@ numbered_calls names earlier f [] calls long is once are = are
 numbered_calls names earlier f (function ∷ program) calls long is once (caller, own, others, at, split, zipped, are) =
     let here : slice_get names (length earlier) ≡ Some function.head.text = ap (λ ns. slice_get ns (length earlier)) is ∙ slice_get-behind earlier function.head.text (heads_of program) in
     let placed : caller ≡ f = same_place names caller (length earlier) function.head.text once at here ∙ long in
-    let longer : length (earlier ++ function.head.text ∷ []) ≡ f + 1 = omega (arith, length-append earlier (function.head.text ∷ []), long) in
-    (own, others, split, own_names names caller function.calls own zipped, own_callers names caller f function.calls own placed zipped,
-    numbered_calls names (earlier ++ function.head.text ∷ []) (f + 1) program others longer (is ∙ sym (append_assoc earlier (function.head.text ∷ []) (heads_of program))) once are)
+    let longer : length (earlier ++ function.head.text ∷ []) ≡ f + 1 = omega (arith, length-append earlier (function.head.text ∷ []), long) in (
+      own,
+      others,
+      split,
+      own_names names caller function.calls own zipped,
+      own_callers names caller f function.calls own placed zipped,
+      numbered_calls names (earlier ++ function.head.text ∷ []) (f + 1) program others longer (is ∙ sym (append_assoc earlier (function.head.text ∷ []) (heads_of program))) once are,
+    )
 
 -- what is behind a function's calls is of later functions
 are_later : (f : ℕ) (program : tree.Program) (calls : List Call) → AreFrom f program calls → All (λ (call : Call). f ≤ call.caller) calls
@@ -108,8 +113,8 @@ view_from before calls f (x ∷ functions) (function ∷ program) earlier same (
     let own_calls : calls_view (before ++ calls) f ≡ function.calls = ap (λ cs. calls_view (before ++ cs) f) split ∙ own_view f before own others earlier callers (are_later (f + 1) program others are) ∙ names in
     let regroup : before ++ calls ≡ (before ++ own) ++ others = ap (λ cs. before ++ cs) split ∙ sym (append_assoc before own others) in
     let earlier_too : All (λ (call : Call). call.caller < f + 1) (before ++ own) = All-append (λ (call : Call). call.caller < f + 1) before own
-        (All-weaker (λ (call : Call). call.caller < f) (λ (call : Call). call.caller < f + 1) (λ call lt. omega arith) before earlier)
-        (All-weaker (λ (call : Call). call.caller ≡ f) (λ (call : Call). call.caller < f + 1) (λ call e. omega arith) own callers) in
+    (All-weaker (λ (call : Call). call.caller < f) (λ (call : Call). call.caller < f + 1) (λ call lt. omega arith) before earlier)
+    (All-weaker (λ (call : Call). call.caller ≡ f) (λ (call : Call). call.caller < f + 1) (λ call e. omega arith) own callers) in
     ap (λ cs. record { head = name_view x.head; file = x.file.0; calls = cs } ∷ functions_view (before ++ calls) (f + 1) functions) own_calls
     ∙ ap (λ (b : tree.Function). record { head = b.head; file = b.file; calls = function.calls } ∷ functions_view (before ++ calls) (f + 1) functions) head
     ∙ ap (λ fs. function ∷ fs) (ap (λ cs. functions_view cs (f + 1) functions) regroup ∙ view_from (before ++ own) others (f + 1) functions program earlier_too tail are)

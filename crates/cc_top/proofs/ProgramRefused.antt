@@ -40,8 +40,8 @@ pub whole_known : (names : List (List ℕ)) (program : tree.Program) → names �
 whole_known names program is whole k d lt =
     let known = whole.called k d lt in
     let head : Contains (heads_of program) (get_or program k d).head.text =
-        subst (Contains (heads_of program)) (get_or-map (λ (f : tree.Function). f.head.text) program k d [] lt)
-        (Contains-get_or (heads_of program) k [] (omega (arith, length-map program (λ (f : tree.Function). f.head.text)))) in
+    subst (Contains (heads_of program)) (get_or-map (λ (f : tree.Function). f.head.text) program k d [] lt)
+    (Contains-get_or (heads_of program) k [] (omega (arith, length-map program (λ (f : tree.Function). f.head.text)))) in
     subst (λ ns. Contains ns (get_or program k d).head.text × All (λ (call : tree.Name). Contains ns call.text) (get_or program k d).calls) (sym is) (head, known)
 
 pub known_front : (names : List (List ℕ)) (xs ys : tree.Program) → CallsKnown names (xs ++ ys) → CallsKnown names xs

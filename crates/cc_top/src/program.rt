@@ -100,7 +100,7 @@ fn add_calls<'a>(
         × ((file : ℕ) → AreCalls (names_of names.now.keys) (functions_of file (parts_view parts.now)) added)) }
     ensures unknown { IfOk result (λ whole. whole ≡ false → (file : ℕ) →
         All (λ function. Contains (names_of names.now.keys) function.head.text
-            × All (λ call. Contains (names_of names.now.keys) call.text) function.calls)
+        × All (λ call. Contains (names_of names.now.keys) call.text) function.calls)
         (functions_of file (parts_view parts.now)) → ⊥) }
 {
     for part in parts {

@@ -23,17 +23,17 @@ returns-then-not-branch-clause-unknown c = λ _ file all.
 
 pub loop-part-preserved : goal.loop-part-preserved
 loop-part-preserved c = elim c.match-part.branch [
-  in-Definition+in-Some+in_ok-add_body+else-not-branch w ↦ (
-    let body = w.in_ok-add_body.ensures.more w.if-not-branch.false in
-    let own = body.0 in
-    let more = c.loop-part.invariant.more in
-    let zipped = subst (λ (called : List Name). AllZip (IsCallFrom (names_of c.args.names.now.keys) w.in-Some.caller) (map name_view called) own) w.deref.ensures.value body.2 in
-    rw w.calls-is (record {
-      more = more ++ own;
-      added = body.1 ∙ ap (λ calls. calls ++ own) c.loop-part.invariant.added ∙ append_assoc c.args.calls.now.items more own;
-      are = λ file. calls_more (names_of c.args.names.now.keys) file c.args.parts.now c.loop-part.part-index c.part-item.result w.in-Definition.head w.in-Definition.called more own w.in-Some.caller
-          c.loop-part-test.true c.part-item.is w.in-Definition.is (name_at w.in-Definition.head.text.now c.args.names.now.keys w.in-Some.caller (sym w.in-Some.ensures.index)) zipped (c.loop-part.invariant.are file);
-    }))
+  | in-Definition+in-Some+in_ok-add_body+else-not-branch w ↦ (
+      let body = w.in_ok-add_body.ensures.more w.if-not-branch.false in
+      let own = body.0 in
+      let more = c.loop-part.invariant.more in
+      let zipped = subst (λ (called : List Name). AllZip (IsCallFrom (names_of c.args.names.now.keys) w.in-Some.caller) (map name_view called) own) w.deref.ensures.value body.2 in
+      rw w.calls-is (record {
+        more = more ++ own;
+        added = body.1 ∙ ap (λ calls. calls ++ own) c.loop-part.invariant.added ∙ append_assoc c.args.calls.now.items more own;
+        are = λ file. calls_more (names_of c.args.names.now.keys) file c.args.parts.now c.loop-part.part-index c.part-item.result w.in-Definition.head w.in-Definition.called more own w.in-Some.caller
+            c.loop-part-test.true c.part-item.is w.in-Definition.is (name_at w.in-Definition.head.text.now c.args.names.now.keys w.in-Some.caller (sym w.in-Some.ensures.index)) zipped (c.loop-part.invariant.are file);
+      }))
   | in_default w ↦ rw w.calls-is (record {
     more = c.loop-part.invariant.more;
     added = c.loop-part.invariant.added;
@@ -41,4 +41,4 @@ loop-part-preserved c = elim c.match-part.branch [
         (sym (functions_same file c.args.parts.now c.loop-part.part-index c.part-item.result c.loop-part-test.true c.part-item.is (rw w.in_default.is refl)))
         (c.loop-part.invariant.are file);
   })
-  ]
+]

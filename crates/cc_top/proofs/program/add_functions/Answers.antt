@@ -16,7 +16,7 @@ returns-then-not-branch-clause-twice c = λ _ rest.
 
 pub loop-part-preserved : goal.loop-part-preserved
 loop-part-preserved c = elim c.match-part.branch [
-  in-Definition+in_ok-insert+else-not-branch+in_ok-push w ↦ rw (w.functions-is, w.names-is, w.in_ok-push.ensures.items) (record {
+  | in-Definition+in_ok-insert+else-not-branch+in_ok-push w ↦ rw (w.functions-is, w.names-is, w.in_ok-push.ensures.items) (record {
     numbered = numbered_insert c.loop-part.functions.items c.loop-part.names.keys w.insert.new.self.keys (record { head = w.in-Definition.head; file = c.args.file }) w.in_ok-insert.field-0
         w.in_ok-insert.ensures.added w.if-not-branch.false w.in_ok-insert.ensures.keys c.loop-part.invariant.numbered;
     more = bare_more c.args.file.0 c.args.parts.now c.loop-part.part-index c.part-item.result w.in-Definition.head w.in-Definition.field-1 (map bare_view c.args.functions.now.items) c.loop-part.functions.items
@@ -27,4 +27,4 @@ loop-part-preserved c = elim c.match-part.branch [
     more = c.loop-part.invariant.more ∙ ap (λ fs. map bare_view c.args.functions.now.items ++ map bare fs)
         (sym (functions_same c.args.file.0 c.args.parts.now c.loop-part.part-index c.part-item.result c.loop-part-test.true c.part-item.is (rw w.in_default.is refl)));
   })
-  ]
+]

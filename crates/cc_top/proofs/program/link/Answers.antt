@@ -17,20 +17,20 @@ returns-then-not-branch-clause-none c = λ e linked.
     let none = c.new-functions.result.items in
     let empty = c.new-functions.ensures.items in
     elim c.then-not-branch.branch [
-    then-not-branch-via-then-not-branch w ↦ twice_in_first (texts_of none) (heads_of p) (heads_of q) (p ++ q) (ap texts_of empty) (heads_of-append p q) (c.in_ok-add_functions.ensures.twice w.if-not-branch.true) linked.0
-    | then-not-branch-via-else-not-branch+in_ok-add_functions-2+then-not-branch-2 w ↦ twice_in_both (texts_of c.add_functions.new.functions.items) (heads_of p) (heads_of q) (p ++ q)
-        (texts_are none c.add_functions.new.functions.items p empty (c.in_ok-add_functions.ensures.more w.if-not-branch.false)) (heads_of-append p q)
-        (w.in_ok-add_functions-2.ensures.twice w.if-not-branch-2.true) linked.0
-    | then-not-branch-via-else-not-branch+in_ok-add_functions-2+else-not-branch-2+in_ok-add_calls+then-not-branch-3 w ↦ (let names = names_of w.add_functions-else-not-branch.new.names.keys in
-        w.in_ok-add_calls.ensures.unknown w.if-not-branch-3.true 0 (known_front names p q (whole_known names (p ++ q)
-        (names_are [] w.add_functions-else-not-branch.new.functions.items w.add_functions-else-not-branch.new.names.keys (p ++ q) refl (w.in_ok-add_functions-2.ensures.numbered w.if-not-branch-2.false)
-        (functions_made _ _ _ p q empty (c.in_ok-add_functions.ensures.more w.if-not-branch.false) (w.in_ok-add_functions-2.ensures.more w.if-not-branch-2.false)))
-        linked.0)))
-    | then-not-branch-via-else-not-branch+in_ok-add_functions-2+else-not-branch-2+in_ok-add_calls+else-not-branch-3+in_ok-add_calls-2+then-not-branch-4 w ↦ (let names = names_of w.add_functions-else-not-branch.new.names.keys in
-        w.in_ok-add_calls-2.ensures.unknown w.if-not-branch-4.true 1 (known_back names p q (whole_known names (p ++ q)
-        (names_are [] w.add_functions-else-not-branch.new.functions.items w.add_functions-else-not-branch.new.names.keys (p ++ q) refl (w.in_ok-add_functions-2.ensures.numbered w.if-not-branch-2.false)
-        (functions_made _ _ _ p q empty (c.in_ok-add_functions.ensures.more w.if-not-branch.false) (w.in_ok-add_functions-2.ensures.more w.if-not-branch-2.false)))
-        linked.0)))
+      | then-not-branch-via-then-not-branch w ↦ twice_in_first (texts_of none) (heads_of p) (heads_of q) (p ++ q) (ap texts_of empty) (heads_of-append p q) (c.in_ok-add_functions.ensures.twice w.if-not-branch.true) linked.0
+      | then-not-branch-via-else-not-branch+in_ok-add_functions-2+then-not-branch-2 w ↦ twice_in_both (texts_of c.add_functions.new.functions.items) (heads_of p) (heads_of q) (p ++ q)
+          (texts_are none c.add_functions.new.functions.items p empty (c.in_ok-add_functions.ensures.more w.if-not-branch.false)) (heads_of-append p q)
+          (w.in_ok-add_functions-2.ensures.twice w.if-not-branch-2.true) linked.0
+      | then-not-branch-via-else-not-branch+in_ok-add_functions-2+else-not-branch-2+in_ok-add_calls+then-not-branch-3 w ↦ (let names = names_of w.add_functions-else-not-branch.new.names.keys in
+          w.in_ok-add_calls.ensures.unknown w.if-not-branch-3.true 0 (known_front names p q (whole_known names (p ++ q)
+          (names_are [] w.add_functions-else-not-branch.new.functions.items w.add_functions-else-not-branch.new.names.keys (p ++ q) refl (w.in_ok-add_functions-2.ensures.numbered w.if-not-branch-2.false)
+          (functions_made _ _ _ p q empty (c.in_ok-add_functions.ensures.more w.if-not-branch.false) (w.in_ok-add_functions-2.ensures.more w.if-not-branch-2.false)))
+          linked.0)))
+      | then-not-branch-via-else-not-branch+in_ok-add_functions-2+else-not-branch-2+in_ok-add_calls+else-not-branch-3+in_ok-add_calls-2+then-not-branch-4 w ↦ (let names = names_of w.add_functions-else-not-branch.new.names.keys in
+          w.in_ok-add_calls-2.ensures.unknown w.if-not-branch-4.true 1 (known_back names p q (whole_known names (p ++ q)
+          (names_are [] w.add_functions-else-not-branch.new.functions.items w.add_functions-else-not-branch.new.names.keys (p ++ q) refl (w.in_ok-add_functions-2.ensures.numbered w.if-not-branch-2.false)
+          (functions_made _ _ _ p q empty (c.in_ok-add_functions.ensures.more w.if-not-branch.false) (w.in_ok-add_functions-2.ensures.more w.if-not-branch-2.false)))
+          linked.0)))
     ]
 
 pub returns-in_default-clause-none : goal.returns-in_default-clause-none
@@ -40,7 +40,7 @@ returns-in_default-clause-none c = λ e linked.
     let functions = c.add_functions-else-not-branch.new.functions.items in
     let keys = c.add_functions-else-not-branch.new.names.keys in
     let same : map bare_view functions ≡ map bare (p ++ q) =
-        functions_made _ _ _ p q c.new-functions.ensures.items (c.in_ok-add_functions.ensures.more c.if-not-branch.false) (c.in_ok-add_functions-2.ensures.more c.if-not-branch-2.false) in
+    functions_made _ _ _ p q c.new-functions.ensures.items (c.in_ok-add_functions.ensures.more c.if-not-branch.false) (c.in_ok-add_functions-2.ensures.more c.if-not-branch-2.false) in
     let names = names_are [] functions keys (p ++ q) refl (c.in_ok-add_functions-2.ensures.numbered c.if-not-branch-2.false) same in
     no_entry keys (p ++ q) c.args.entry.now e names (sym c.in_default.ensures.found) linked
 
