@@ -1,7 +1,8 @@
 -- The points that are marked are those that a path leads to.
-use Rattle.std.proofs.Common.{◌≡◌, ◌≢◌, ◌⊎◌, ℕ, zero, suc, ◌+◌, ◌*◌, ◌<◌, ◌≤◌, inl, inr, ⊎_elim, List, [], ◌∷◌, length, get_or, Option, Some, None, Bool, true, false, cond, ltb, refl, sym, ap, ◌∙◌, subst, arith, All, Contains, slice_get}
+use Rattle.std.proofs.Common.{◌≡◌, ◌≢◌, ◌⊎◌, ℕ, zero, suc, ◌+◌, ◌*◌, ◌<◌, ◌≤◌, inl, inr, ⊎_elim, List, [], ◌∷◌, length, get_or, Option, Some, None, Bool, true, false, cond, ltb, refl, sym, ap, ◌∙◌, subst, arith, All, Contains, slice_get, ◌++◌, length-append}
 use Rattle.std.specs.Prelude.{◌↔◌}
-use Rattle.std.proofs.lemmas.Bool.{cases_lt, cases_Bool, ltb-true}
+use Rattle.std.proofs.lemmas.Bool.{cases_eq, cases_lt}
+use Rattle.std.proofs.lemmas.List.{get_or_at, get_or_append_left}
 use Rattle.std.proofs.lemmas.List.Elements.{Contains-get_or}
 use Rattle.std.proofs.lemmas.Option.{slice_get_within, slice_get-get_or, same_Some}
 use Rattle.cc_base.specs.declared.reach.Edge.{Edge}
@@ -19,7 +20,7 @@ use Rattle.cc_top.specs.declared.program.Function as code_function
 use Rattle.cc_top.specs.declared.program.Program.{Program}
 use Rattle.cc_top.proofs.PathPlaces.{before_cases, place_own, last_ends, ends_last, none_view, nested_at, flat_at}
 use Rattle.cc_top.proofs.PathPoints.{block_part, block_end, at_first, at_next, at_exit, at_through, reached_live}
-use Rattle.cc_top.proofs.PathSites.{view_of, function_view, function_seen, linked_at, caller_of, is_caller_of, site_at, flat_of}
+use Rattle.cc_top.proofs.PathSites.{view_of, function_view, function_seen, linked_at, caller_of, is_caller_of, site_at, callee_of, flat_of}
 
 -- the number of functions, and the calls
 abbrev count_of : Program → ℕ
@@ -124,9 +125,9 @@ module _ (program : Program) (sound : IsSound program) (live : List Bool) (edges
       nothing = record { head = record { text = record { ref_ptr = (0, 0); now = [] }; spot = record { line = 0; column = 0 } }; file = record { 0 = 0 } }
 
       by_call : (k : ℕ) (call : code.Call) → slice_get (calls_of program) k ≡ Some call
-          → (record { from = a; to = b } ≡ record { from = before_of (count_of program) (calls_of program) k; to = call.callee })
-          ⊎ (((is_last_call (calls_of program) k ≡ true) × (record { from = a; to = b } ≡ record { from = 2 * count_of program + k; to = count_of program + call.caller }))
-          ⊎ (IsMarked live call.caller × (record { from = a; to = b } ≡ record { from = count_of program + call.callee; to = 2 * count_of program + k }))) → IsClaimed program b
+          → (◌≡◌ {A = Edge} (record { from = a; to = b }) (record { from = before_of (count_of program) (calls_of program) k; to = call.callee }))
+          ⊎ (((is_last_call (calls_of program) k ≡ true) × (◌≡◌ {A = Edge} (record { from = a; to = b }) (record { from = 2 * count_of program + k; to = count_of program + call.caller })))
+          ⊎ (IsMarked live call.caller × (◌≡◌ {A = Edge} (record { from = a; to = b }) (record { from = count_of program + call.callee; to = 2 * count_of program + k })))) → IsClaimed program b
       by_call k call at cases = ⊎_elim
           (λ e.
             let reached = call_reached program sound k call at a (ap (λ (d : Edge). d.from) e) claimed in
@@ -283,15 +284,10 @@ module _ (program : Program) (sound : IsSound program) (live : List Bool) (edges
 
   back_covered : (f i g : ℕ) → IsLive (program_view program) program.entry f → IsSite (program_view program) f i g → Marked (count_of program + g) → BehindCall f i
   back_covered f i g caller_live site covered k call at caller placed =
-      let flat = flat_of program f i g sound site in
       let marked : IsMarked live call.caller = (are_live call.caller).1 (subst (λ h. IsLive (program_view program) program.entry h) (sym caller) caller_live) in
-      let stands : IsSite (program_view program) f i call.callee = subst (λ h. IsSite (program_view program) f h call.callee) placed (subst (λ h. IsSite (program_view program) h (place (calls_of program) k h) call.callee) caller (site_at program k call sound at)) in
-      let same : call.callee ≡ g = one_callee f i call.callee g stands site in
+      let same : call.callee ≡ g = callee_of program f i g call k sound site at caller placed in
       on_edge (count_of program + g) (2 * count_of program + k) covered
       (inl (k, (call, at, inr (inr (marked, ap (λ h. record { from = count_of program + h; to = 2 * count_of program + k }) (sym same))))))
-    where
-      one_callee : (x y g' h' : ℕ) → IsSite (program_view program) x y g' → IsSite (program_view program) x y h' → g' ≡ h'
-      one_callee x y g' h' one two = ?
 
   across_covered : (a b : Point) → Across (program_view program) program.entry a b → IsCovered a → IsCovered b
   across_covered a b (Inside step) covered = step_covered a b step covered
@@ -314,6 +310,61 @@ module _ (program : Program) (sound : IsSound program) (live : List Bool) (edges
   -- the edges stand between the numbers of points
   pub edges_within : AreBelow (2 * length program.functions.items + length program.calls.items) edges
   edges_within n d lt = ⊎_elim
-      (λ of. ?)
-      (λ through. ?)
+      (λ of. of_call (get_or edges n d) of.0 of.1.0 of.1.1 of.1.2)
+      (λ through.
+        let from : (get_or edges n d).from ≡ through.0 = ap (λ (e : Edge). e.from) through.1.2 in
+        let to : (get_or edges n d).to ≡ count_of program + through.0 = ap (λ (e : Edge). e.to) through.1.2 in
+        let below : through.0 < count_of program = through.1.0 in
+        (omega arith, omega arith))
       ((are_edges (get_or edges n d)).0 (Contains-get_or edges n d lt))
+    where
+      point_within : (k : ℕ) (call : code.Call) → slice_get (calls_of program) k ≡ Some call → before_of (count_of program) (calls_of program) k < 2 * count_of program + length (calls_of program)
+      point_within k call at = ⊎_elim
+          (λ body. (let p = body.point in let w = slice_get_within (calls_of program) body.number body.earlier body.at in omega arith))
+          (λ head. (let p = head.point in let c = (linked_at program k call sound at).caller in omega arith))
+          (before_cases (count_of program) (calls_of program) k call sound.ascending at)
+
+      of_call : (edge : Edge) (k : ℕ) (call : code.Call) → slice_get (calls_of program) k ≡ Some call
+          → (edge ≡ record { from = before_of (count_of program) (calls_of program) k; to = call.callee })
+          ⊎ (((is_last_call (calls_of program) k ≡ true) × (edge ≡ record { from = 2 * count_of program + k; to = count_of program + call.caller }))
+          ⊎ (IsMarked live call.caller × (edge ≡ record { from = count_of program + call.callee; to = 2 * count_of program + k })))
+          → (edge.from < 2 * count_of program + length (calls_of program)) × (edge.to < 2 * count_of program + length (calls_of program))
+      of_call edge k call at cases =
+          let here = slice_get_within (calls_of program) k call at in
+          let caller = (linked_at program k call sound at).caller in
+          let callee = callee_below k call at in
+          let point = point_within k call at in
+          ⊎_elim
+          (λ e. (let from = ap (λ (d : Edge). d.from) e in let to = ap (λ (d : Edge). d.to) e in (omega arith, omega arith)))
+          (λ others. ⊎_elim
+          (λ p. (let from = ap (λ (d : Edge). d.from) p.1 in let to = ap (λ (d : Edge). d.to) p.1 in (omega arith, omega arith)))
+          (λ p. (let from = ap (λ (d : Edge). d.from) p.1 in let to = ap (λ (d : Edge). d.to) p.1 in (omega arith, omega arith)))
+          others)
+          cases
+
+  -- the point before each call is one of them
+  pub before_within : (k : ℕ) (call : code.Call) → slice_get (calls_of program) k ≡ Some call → before_of (length program.functions.items) program.calls.items k < 2 * length program.functions.items + length program.calls.items
+  before_within k call at = ⊎_elim
+      (λ body. (let p = body.point in let w = slice_get_within (calls_of program) body.number body.earlier body.at in omega arith))
+      (λ head. (let p = head.point in let c = (linked_at program k call sound at).caller in omega arith))
+      (before_cases (count_of program) (calls_of program) k call sound.ascending at)
+
+  -- what was read at the point before each call says whether a path leads to the call
+  pub reached_exact : (marks reached : List Bool) (n : ℕ) → length program.calls.items ≤ n → ((k : ℕ) → k < n → slice_get reached k ≡ slice_get marks (before_of (length program.functions.items) program.calls.items k)) → ((p : ℕ) → IsMarked marks p ↔ Reaches (Leads edges) program.entry p) → (k : ℕ) (call : code.Call) → slice_get program.calls.items k ≡ Some call → IsMarked reached k ↔ IsReachable (program_view program) program.entry (At call.caller (place program.calls.items k call.caller))
+  reached_exact marks reached n long same exact k call at =
+      let p = before_of (count_of program) (calls_of program) k in
+      let here : slice_get reached k ≡ slice_get marks (before_of (count_of program) (calls_of program) k) = same k (let lt = slice_get_within (calls_of program) k call at in omega arith) in
+      (λ marked. (exact_at k call at).0 ((exact p).0 (sym here ∙ marked)), λ path. here ∙ (exact p).1 ((exact_at k call at).1 path))
+
+-- one more is read
+pub read_more : (reached marks : List Bool) (functions : ℕ) (calls : List code.Call) (i : ℕ) (x : Bool) → length reached ≡ i → ((k : ℕ) → k < i → slice_get reached k ≡ slice_get marks (before_of functions calls k)) → slice_get marks (before_of functions calls i) ≡ Some x → (k : ℕ) → k < i + 1 → slice_get (reached ++ x ∷ []) k ≡ slice_get marks (before_of functions calls k)
+read_more reached marks functions calls i x long same new k lt = ⊎_elim
+    (λ e. ap (slice_get (reached ++ x ∷ [])) (e ∙ sym long) ∙ slice_get-last reached x ∙ sym (ap (λ j. slice_get marks (before_of functions calls j)) e ∙ new))
+    (λ differ. slice_get-front reached x k (omega arith) ∙ same k (omega arith))
+    (cases_eq k i)
+  where
+    slice_get-last : (xs : List Bool) (y : Bool) → slice_get (xs ++ y ∷ []) (length xs) ≡ Some y
+    slice_get-last xs y = slice_get-get_or (xs ++ y ∷ []) (length xs) y (omega (arith, length-append xs (y ∷ []))) ∙ ap Some (get_or_at xs y [] y (length xs) refl)
+
+    slice_get-front : (xs : List Bool) (y : Bool) (j : ℕ) → j < length xs → slice_get (xs ++ y ∷ []) j ≡ slice_get xs j
+    slice_get-front xs y j within = slice_get-get_or (xs ++ y ∷ []) j y (omega (arith, length-append xs (y ∷ []))) ∙ ap Some (get_or_append_left xs (y ∷ []) y j within) ∙ sym (slice_get-get_or xs j y within)

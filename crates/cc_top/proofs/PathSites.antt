@@ -99,23 +99,32 @@ pub record IsFlat (program : Program) (f i g : ℕ) : Type 0 where
 text_at : (functions : List Function) (g : ℕ) (function : Function) → slice_get functions g ≡ Some function → slice_get (texts_of functions) g ≡ Some function.head.text.now
 text_at functions g function at = slice_get-map (λ (f : Function). f.head.text.now) functions g ∙ ap (option_map (λ (f : Function). f.head.text.now)) at
 
+-- it leads to the function that the site names
+pub callee_of : (program : Program) (f i g : ℕ) (call : Call) (k : ℕ) → IsSound program → IsSite (program_view program) f i g → slice_get program.calls.items k ≡ Some call → call.caller ≡ f → place program.calls.items k f ≡ i → call.callee ≡ g
+callee_of program f i g call k sound site at caller_is placed =
+    let caller = function_seen program f site.caller site.is_caller in
+    let callee = function_seen program g site.callee site.is_callee in
+    let linked = linked_at program k call sound at in
+    let named : name_view call.name ≡ site.call = same_Some (name_view call.name) site.call
+        (sym (subst (λ (j : ℕ). slice_get (calls_view program.calls.items f) j ≡ Some (name_view call.name)) placed (nested_at program.calls.items k call f at caller_is))
+        ∙ subst (λ (seen : tree.Function). slice_get seen.calls i ≡ Some site.call) caller.same site.is_call) in
+    let text : linked.callee.head.text.now ≡ callee.function.head.text.now =
+        linked.named ∙ ap (λ (n : tree.Name). n.text) named ∙ sym site.named ∙ ap (λ (s : tree.Function). s.head.text) callee.same in
+    same_place (texts_of program.functions.items) call.callee g callee.function.head.text.now sound.once
+    (text_at program.functions.items call.callee linked.callee linked.is_callee ∙ ap Some text)
+    (text_at program.functions.items g callee.function callee.at)
+
 pub flat_of : (program : Program) (f i g : ℕ) → IsSound program → IsSite (program_view program) f i g → IsFlat program f i g
 flat_of program f i g sound site =
     let caller = function_seen program f site.caller site.is_caller in
-    let callee = function_seen program g site.callee site.is_callee in
     let found = flat_at program.calls.items f i site.call (subst (λ (seen : tree.Function). slice_get seen.calls i ≡ Some site.call) caller.same site.is_call) in
-    let linked = linked_at program found.number found.call sound found.at in
-    let text : linked.callee.head.text.now ≡ callee.function.head.text.now =
-        linked.named ∙ ap (λ (n : tree.Name). n.text) found.named ∙ sym site.named ∙ ap (λ (s : tree.Function). s.head.text) callee.same in
     record {
       number = found.number;
       call = found.call;
       at = found.at;
       caller = found.caller;
       placed = found.placed;
-      callee = same_place (texts_of program.functions.items) found.call.callee g callee.function.head.text.now sound.once
-          (text_at program.functions.items found.call.callee linked.callee linked.is_callee ∙ ap Some text)
-          (text_at program.functions.items g callee.function callee.at);
+      callee = callee_of program f i g found.call found.number sound site found.at found.caller found.placed;
     }
 
 -- the edges from callers to called functions
