@@ -5,6 +5,16 @@ pub mod ListingText
 pub mod NamePlain
 pub mod OneAnswer
 pub mod OneListing
+pub mod PathEdges
+pub mod PathExact
+pub mod PathPlaces
+pub mod PathPoints
+pub mod PathRows
+pub mod PathSites
+pub mod ProgramLinked
+pub mod ProgramNames
+pub mod ProgramParts
+pub mod ProgramRefused
 pub mod ProjectNames
 pub mod TokenLaws
 pub mod TokenSteps

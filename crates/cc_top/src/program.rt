@@ -1,9 +1,12 @@
 // The program that two files of the first form make.
-ghost use Rattle.std.specs.Prelude.{◌≡◌, ℕ, IfOk, IfSome, IfNone};
+ghost use Rattle.std.specs.Prelude.{◌≡◌, ◌≢◌, ◌++◌, ℕ, List, All, AllPairs, Contains, IfOk, IfSome, IfNone, IsTrue, false, map};
+ghost use Rattle.std.specs.List.{AllZip};
 ghost use Rattle.cc_top.specs.Answer.{IsLinked};
 ghost use Rattle.cc_top.specs.Linked.{IsSound};
-ghost use Rattle.cc_top.specs.Unit.{program_of};
-ghost use Rattle.cc_top.specs.Views.{parts_view, program_view};
+ghost use Rattle.cc_top.specs.Linking.{AreCalls, AreNumbered, IsCallFrom, bare, bare_view, names_of, texts_of};
+ghost use Rattle.cc_top.specs.Listing.{heads_of};
+ghost use Rattle.cc_top.specs.Unit.{functions_of, program_of};
+ghost use Rattle.cc_top.specs.Views.{name_view, parts_view, program_view};
 
 use crate::unit::{Name, Part};
 use cc_tree::FileId;
@@ -39,7 +42,16 @@ fn add_functions<'a>(
     names: &mut IndexSet<&'a str>,
     file: FileId,
     parts: &[Part<'a>],
-) -> Result<bool, AllocError> {
+) -> Result<bool, AllocError>
+    requires { AreNumbered functions.old.items names.old.keys }
+    ensures numbered { IfOk result (λ whole. IsTrue whole → AreNumbered functions.new.items names.new.keys) }
+    ensures more { IfOk result (λ whole. IsTrue whole →
+        map bare_view functions.new.items
+        ≡ map bare_view functions.old.items ++ map bare (functions_of file.0 (parts_view parts.now))) }
+    ensures twice { IfOk result (λ whole. whole ≡ false → (rest : List (List ℕ)) →
+        AllPairs (λ a b. a ≢ b)
+        (texts_of functions.old.items ++ (heads_of (functions_of file.0 (parts_view parts.now)) ++ rest)) → ⊥) }
+{
     for part in parts {
         if let Part::Definition(head, _) = part {
             if !names.insert(head.text)? {
@@ -51,26 +63,53 @@ fn add_functions<'a>(
     Ok(true)
 }
 
+// Adds the calls of a body; false where a called name has no body.
+fn add_body<'a>(
+    calls: &mut Vec<Call<'a>>,
+    names: &IndexSet<&'a str>,
+    caller: usize,
+    called: &[Name<'a>],
+) -> Result<bool, AllocError>
+    ensures more { IfOk result (λ whole. IsTrue whole → (own : List Call)
+        × (calls.new.items ≡ calls.old.items ++ own)
+        × AllZip (IsCallFrom (names_of names.now.keys) caller) (map name_view called.now) own) }
+    ensures unknown { IfOk result (λ whole. whole ≡ false →
+        All (λ name. Contains (names_of names.now.keys) name.text) (map name_view called.now) → ⊥) }
+{
+    for name in called {
+        let Some(callee) = names.get_index_of(name.text) else {
+            return Ok(false);
+        };
+        calls.push(Call {
+            name: *name,
+            caller,
+            callee,
+        })?;
+    }
+    Ok(true)
+}
+
 // Adds the calls of a file; false where a called name has no body.
 fn add_calls<'a>(
     calls: &mut Vec<Call<'a>>,
     names: &IndexSet<&'a str>,
     parts: &[Part<'a>],
-) -> Result<bool, AllocError> {
+) -> Result<bool, AllocError>
+    ensures more { IfOk result (λ whole. IsTrue whole → (added : List Call)
+        × (calls.new.items ≡ calls.old.items ++ added)
+        × ((file : ℕ) → AreCalls (names_of names.now.keys) (functions_of file (parts_view parts.now)) added)) }
+    ensures unknown { IfOk result (λ whole. whole ≡ false → (file : ℕ) →
+        All (λ function. Contains (names_of names.now.keys) function.head.text
+        × All (λ call. Contains (names_of names.now.keys) call.text) function.calls)
+        (functions_of file (parts_view parts.now)) → ⊥) }
+{
     for part in parts {
         if let Part::Definition(head, called) = part {
             let Some(caller) = names.get_index_of(head.text) else {
                 return Ok(false);
             };
-            for call in called {
-                let Some(callee) = names.get_index_of(call.text) else {
-                    return Ok(false);
-                };
-                calls.push(Call {
-                    name: *call,
-                    caller,
-                    callee,
-                })?;
+            if !add_body(calls, names, caller, called)? {
+                return Ok(false);
             }
         }
     }
