@@ -1,13 +1,11 @@
 -- Which token stands at the front of a text.
-use Rattle.std.proofs.Common.{not, ◌≡◌, ◌≢◌, ℕ, zero, suc, ◌+◌, ◌≤◌, ◌<◌, Bool, true, false, cond, ◌&&◌, ◌||◌, eqb, leb, ltb, List, [], ◌∷◌, ◌++◌, length, take, drop, length-take, refl, sym, ap, subst, ◌∙◌, arith, ◌⊎◌, inl, inr}
-use Rattle.std.proofs.lemmas.Bool.{eqb-true}
+use Rattle.std.proofs.Common.{not, ◌≡◌, ℕ, zero, suc, ◌≤◌, ◌<◌, Bool, true, false, ◌&&◌, ◌||◌, eqb, ltb, List, [], ◌∷◌, ◌++◌, length, take, drop, length-take, refl, sym, subst, arith, ◌⊎◌, inl, inr}
 use Rattle.std.proofs.lemmas.Bool.Decides.{nat_tests}
 use Rattle.std.proofs.lemmas.Slice.Eq.{bytes_eq-Decides}
 use Rattle.std.proofs.lemmas.Str.{IsUtf8-from_ascii}
 use Rattle.std.specs.List.{slice_index, list_all, position, position_or_len}
-use Rattle.std.specs.Prelude.{codes, slice_get, All, unwrap_or, Option, Some, None}
-use Rattle.std.specs.Str.{bytes_eq, IsUtf8, IsAscii}
-use Rattle.std.proofs.lemmas.List.Quantifiers.{position-Some}
+use Rattle.std.specs.Prelude.{codes, slice_get, Some, None}
+use Rattle.std.specs.Str.{bytes_eq, IsUtf8}
 use Rattle.cc_top.specs.Names.{is_word_byte, is_digit, is_identifier, is_keyword, is_extension, is_free_name}
 use Rattle.cc_top.specs.Cut.{is_white, begins_word, is_longest}
 use Rattle.cc_top.specs.Tokens.{is_mark, is_mark_text, is_form_word, is_form_text, word_len, token_len, text_of, IsKind, IsFirst}
@@ -36,9 +34,6 @@ pub not_true : (b : Bool) → not b ≡ true → b ≡ false
 not_true true e = absurd cc
 not_true false e = refl
 
-pub not_from : (b : Bool) → b ≡ false → not b ≡ true
-not_from b e = rw e refl
-
 pub false_by : (b : Bool) → (b ≡ true → ⊥) → b ≡ false
 false_by b never = elim (cases b) [ inl e ↦ absurd (never e) | inr e ↦ e ]
 
@@ -55,9 +50,6 @@ mark_no_word b e = grind (arith, nat_tests)
 
 pub word_no_feed : (b : ℕ) → is_word_byte b ≡ true → eqb b 10 ≡ false
 word_no_feed b e = grind (arith, nat_tests)
-
-pub mark_no_feed : (b : ℕ) → is_mark b ≡ true → eqb b 10 ≡ false
-mark_no_feed b e = grind (arith, nat_tests)
 
 word_small : (b : ℕ) → is_word_byte b ≡ true → b < 128
 word_small b e = grind (arith, nat_tests)
@@ -226,11 +218,11 @@ word_some [] b n found f l h k t m = absurd cc
 word_some (a ∷ z) b n found f l h k t m =
     elim (cases (is_word_byte a)) [
       | inl w ↦ record {
-          kind = k;
-          text = t;
-          len = rw w (rw w at l);
-          within = h;
-          some = let p : n ≡ suc (word_len z) = rw w at l in omega arith;
-        }
+        kind = k;
+        text = t;
+        len = rw w (rw w at l);
+        within = h;
+        some = let p : n ≡ suc (word_len z) = rw w at l in omega arith;
+      }
       | inr w ↦ let p : n ≡ 0 = rw w at l in absurd (text_some found k (rw p at t))
     ]

@@ -1,20 +1,19 @@
 -- What each step of a lexer does to the cuts of the bytes.
-use Rattle.std.proofs.Common.{not, ◌≡◌, ◌≢◌, ℕ, zero, suc, ◌+◌, ◌≤◌, ◌<◌, Bool, true, false, cond, ◌&&◌, ◌||◌, eqb, List, [], ◌∷◌, ◌++◌, length, length-drop, get_or, take, drop, refl, sym, ap, subst, ◌∙◌, arith, ◌⊎◌, inl, inr}
-use Rattle.std.proofs.lemmas.Bool.{eqb-true}
+use Rattle.std.proofs.Common.{not, ◌≡◌, ℕ, suc, ◌+◌, ◌≤◌, ◌<◌, true, false, eqb, List, [], ◌∷◌, ◌++◌, length, length-drop, get_or, take, drop, refl, sym, ap, subst, ◌∙◌, arith}
 use Rattle.std.proofs.lemmas.List.{take-append-drop}
 use Rattle.std.proofs.Math.Seq.{take-append_seam, drop-append_seam}
 use Rattle.std.specs.List.{list_all}
-use Rattle.std.specs.Prelude.{if◌then◌else◌, codes, IfSome, Option, Some, None, slice_get}
+use Rattle.std.specs.Prelude.{if◌then◌else◌, IfSome}
 use Rattle.cc_tree.specs.declared.place.Spot.{Spot}
 use Rattle.cc_tree.specs.Spots.{start, next_spot, spot_behind}
-use Rattle.cc_top.specs.Names.{is_word_byte, is_free_name, is_identifier}
-use Rattle.cc_top.specs.Cut.{is_white, begins_word, is_longest, Spelled, IsCut}
-use Rattle.cc_top.specs.Tokens.{is_mark, is_form_text, word_len, token_len, text_of, mark_byte, IsKind, AreTokens, AreFormTokens, Writes, Spells, IsReadTo, IsTokens, NoTokens, IsFirst}
+use Rattle.cc_top.specs.Names.{is_word_byte}
+use Rattle.cc_top.specs.Cut.{is_white, is_longest, Spelled, IsCut}
+use Rattle.cc_top.specs.Tokens.{is_form_text, token_len, text_of, IsKind, AreTokens, AreFormTokens, Writes, Spells, IsReadTo, IsTokens, NoTokens, IsFirst}
 use Rattle.cc_top.specs.declared.token.Mark.TheVariants.{OpenParen, CloseParen, OpenBrace, CloseBrace, Semicolon}
 use Rattle.cc_top.specs.declared.token.Kind.{Kind}
 use Rattle.cc_top.specs.declared.token.Kind.TheVariants as kind
 use Rattle.cc_top.specs.declared.token.Token.{Token}
-use Rattle.cc_top.proofs.TokenLaws.{not_true, len_taken, cases, and_true, and_from, word_no_feed, mark_no_feed, FormText, mark, word, form_text, form_len, form_no_white, front_longest, free_identifier, identifier_words}
+use Rattle.cc_top.proofs.TokenLaws.{not_true, len_taken, and_true, and_from, word_no_feed, form_len, form_no_white, front_longest, free_identifier, identifier_words}
 
 -- ---- lists of tokens
 
@@ -129,17 +128,17 @@ front at b z (t ∷ ts) f w c = front_by at b z t ts f w c.0 c.1 c.2 c.3 c.4 c.5
 
 pub read_start : (bytes : List ℕ) → IsReadTo bytes [] start bytes
 read_start bytes = record {
-    kinds = tt;
-    cuts = λ ts us s c. subst (λ (xs : List Spelled). IsCut start bytes xs) (sym s) c;
-    only = λ ts f c. (ts, refl, f, c);
-  }
+  kinds = tt;
+  cuts = λ ts us s c. subst (λ (xs : List Spelled). IsCut start bytes xs) (sym s) c;
+  only = λ ts f c. (ts, refl, f, c);
+}
 
 pub read_white : (bytes : List ℕ) (tokens : List Token) (at : Spot) (b : ℕ) (z : List ℕ) → IsReadTo bytes tokens at (b ∷ z) → is_white b ≡ true → IsReadTo bytes tokens (next_spot at b) z
 read_white bytes tokens at b z r w = record {
-    kinds = r.kinds;
-    cuts = λ ts us s c. r.cuts ts us s (white_on at b z us w c);
-    only = λ ts f c. let p = r.only ts f c in (p.0, p.1, p.2, white_off at b z p.0 p.2 w p.3);
-  }
+  kinds = r.kinds;
+  cuts = λ ts us s c. r.cuts ts us s (white_on at b z us w c);
+  only = λ ts f c. let p = r.only ts f c in (p.0, p.1, p.2, white_off at b z p.0 p.2 w p.3);
+}
 
 pub read_none : (bytes : List ℕ) (tokens : List Token) (at : Spot) (b : ℕ) (z : List ℕ) → IsReadTo bytes tokens at (b ∷ z) → is_white b ≡ false
     → is_form_text (take (token_len (b ∷ z)) (b ∷ z)) ≡ false → NoTokens bytes
@@ -167,7 +166,7 @@ first_off : (at : Spot) (bytes : List ℕ) (found : Kind) (n : ℕ) → IsFirst 
     → IsCut (spot_behind at t.text) (drop (token_len bytes) bytes) us → IsCut (placed at (at.column + n)) (drop n bytes) us
 first_off at bytes found n first t us w c =
     let moved : IsCut (placed at (at.column + n)) (drop (token_len bytes) bytes) us =
-      subst (λ (s : Spot). IsCut s (drop (token_len bytes) bytes) us) (first_spot at bytes found n first t.text w) c in
+    subst (λ (s : Spot). IsCut s (drop (token_len bytes) bytes) us) (first_spot at bytes found n first t.text w) c in
     subst (λ (k : ℕ). IsCut (placed at (at.column + n)) (drop k bytes) us) (sym first.len) moved
 
 pub read_token : (bytes : List ℕ) (tokens : List Token) (at : Spot) (b : ℕ) (z : List ℕ) (found : Kind) (n : ℕ) → IsReadTo bytes tokens at (b ∷ z) → is_white b ≡ false → IsFirst (b ∷ z) found n
@@ -198,10 +197,10 @@ at_end at (t ∷ us) f c = at_end_by t us f.0 c.0 c.1 c.2
 
 pub read_end : (bytes : List ℕ) (tokens : List Token) (at : Spot) → IsReadTo bytes tokens at [] → IsTokens bytes tokens
 read_end bytes tokens at r = record {
-    kinds = r.kinds;
-    cuts = λ ts s. r.cuts ts [] s refl;
-    only = λ ts f c. let p = r.only ts f c in subst (λ (xs : List Spelled). Spells tokens ts xs) (at_end at p.0 p.2 p.3) p.1;
-  }
+  kinds = r.kinds;
+  cuts = λ ts s. r.cuts ts [] s refl;
+  only = λ ts f c. let p = r.only ts f c in subst (λ (xs : List Spelled). Spells tokens ts xs) (at_end at p.0 p.2 p.3) p.1;
+}
 
 -- ---- the same, as the code comes to it
 

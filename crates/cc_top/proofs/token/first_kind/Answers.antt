@@ -1,7 +1,5 @@
-use Rattle.std.proofs.Common.{sym, ◌≡◌}
-use Rattle.std.specs.Prelude.{IfNone}
-use Rattle.cc_top.specs.Tokens.{is_form_text, token_len}
-use Rattle.cc_top.proofs.TokenLaws.{len_taken, word_none, word_some}
+use Rattle.std.proofs.Common.{sym}
+use Rattle.cc_top.proofs.TokenLaws.{word_none, word_some}
 use Rattle.cc_top.proofs.token.first_kind.Goals as goal
 
 pub returns-in_err-kind-in-None-clause-none : goal.returns-in_err-kind-in-None-clause-none
@@ -12,4 +10,4 @@ returns-in_err-kind-in-None-clause-none c =
 pub returns-in_ok-kind-in-None-clause-some : goal.returns-in_ok-kind-in-None-clause-some
 returns-in_ok-kind-in-None-clause-some c =
     word_some c.args.text.now c.in_ok-first.first.now c.word_len-len.result c.in_ok-kind-in-None.kind (sym c.in_ok-first.ensures.value) c.word_len-len.ensures.value c.word_len-len.ensures.within
-        c.in_ok-kind-in-None.ensures.some.0 c.in_ok-kind-in-None.ensures.some.1 c.in-None.ensures.none
+    c.in_ok-kind-in-None.ensures.some.0 c.in_ok-kind-in-None.ensures.some.1 c.in-None.ensures.none
