@@ -71,10 +71,6 @@ pub word_len_stops : (text : List ℕ) → begins_word (drop (word_len text) tex
 word_len_stops [] = refl
 word_len_stops (b ∷ z) = elim (cases (is_word_byte b)) [ inl e ↦ rw e (word_len_stops z) | inr e ↦ rw e e ]
 
-pub word_len_words : (text : List ℕ) → list_all is_word_byte (take (word_len text) text) ≡ true
-word_len_words [] = refl
-word_len_words (b ∷ z) = elim (cases (is_word_byte b)) [ inl e ↦ rw (e, e) (word_len_words z) | inr e ↦ rw e refl ]
-
 -- ---- texts of tokens
 
 pub identifier_words : (w : List ℕ) → is_identifier w ≡ true → list_all is_word_byte w ≡ true
