@@ -1,13 +1,11 @@
 -- Which token stands at the front of a text.
-use Rattle.std.proofs.Common.{not, ◌≡◌, ◌≢◌, ℕ, zero, suc, ◌+◌, ◌≤◌, ◌<◌, Bool, true, false, cond, ◌&&◌, ◌||◌, eqb, leb, ltb, List, [], ◌∷◌, ◌++◌, length, take, drop, length-take, refl, sym, ap, subst, ◌∙◌, arith, ◌⊎◌, inl, inr}
-use Rattle.std.proofs.lemmas.Bool.{eqb-true}
+use Rattle.std.proofs.Common.{not, ◌≡◌, ℕ, zero, suc, ◌≤◌, ◌<◌, Bool, true, false, ◌&&◌, ◌||◌, eqb, ltb, List, [], ◌∷◌, ◌++◌, length, take, drop, length-take, refl, sym, subst, arith, ◌⊎◌, inl, inr}
 use Rattle.std.proofs.lemmas.Bool.Decides.{nat_tests}
 use Rattle.std.proofs.lemmas.Slice.Eq.{bytes_eq-Decides}
 use Rattle.std.proofs.lemmas.Str.{IsUtf8-from_ascii}
 use Rattle.std.specs.List.{slice_index, list_all, position, position_or_len}
-use Rattle.std.specs.Prelude.{codes, slice_get, All, unwrap_or, Option, Some, None}
-use Rattle.std.specs.Str.{bytes_eq, IsUtf8, IsAscii}
-use Rattle.std.proofs.lemmas.List.Quantifiers.{position-Some}
+use Rattle.std.specs.Prelude.{codes, slice_get, Some, None}
+use Rattle.std.specs.Str.{bytes_eq, IsUtf8}
 use Rattle.cc_top.specs.Names.{is_word_byte, is_digit, is_identifier, is_keyword, is_extension, is_free_name}
 use Rattle.cc_top.specs.Cut.{is_white, begins_word, is_longest}
 use Rattle.cc_top.specs.Tokens.{is_mark, is_mark_text, is_form_word, is_form_text, word_len, token_len, text_of, IsKind, IsFirst}
@@ -36,9 +34,6 @@ pub not_true : (b : Bool) → not b ≡ true → b ≡ false
 not_true true e = absurd cc
 not_true false e = refl
 
-pub not_from : (b : Bool) → b ≡ false → not b ≡ true
-not_from b e = rw e refl
-
 pub false_by : (b : Bool) → (b ≡ true → ⊥) → b ≡ false
 false_by b never = elim (cases b) [ inl e ↦ absurd (never e) | inr e ↦ e ]
 
@@ -55,9 +50,6 @@ mark_no_word b e = grind (arith, nat_tests)
 
 pub word_no_feed : (b : ℕ) → is_word_byte b ≡ true → eqb b 10 ≡ false
 word_no_feed b e = grind (arith, nat_tests)
-
-pub mark_no_feed : (b : ℕ) → is_mark b ≡ true → eqb b 10 ≡ false
-mark_no_feed b e = grind (arith, nat_tests)
 
 word_small : (b : ℕ) → is_word_byte b ≡ true → b < 128
 word_small b e = grind (arith, nat_tests)
@@ -78,10 +70,6 @@ word_len_front (b ∷ w) z e f =
 pub word_len_stops : (text : List ℕ) → begins_word (drop (word_len text) text) ≡ false
 word_len_stops [] = refl
 word_len_stops (b ∷ z) = elim (cases (is_word_byte b)) [ inl e ↦ rw e (word_len_stops z) | inr e ↦ rw e e ]
-
-pub word_len_words : (text : List ℕ) → list_all is_word_byte (take (word_len text) text) ≡ true
-word_len_words [] = refl
-word_len_words (b ∷ z) = elim (cases (is_word_byte b)) [ inl e ↦ rw (e, e) (word_len_words z) | inr e ↦ rw e refl ]
 
 -- ---- texts of tokens
 

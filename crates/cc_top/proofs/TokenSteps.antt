@@ -1,20 +1,19 @@
 -- What each step of a lexer does to the cuts of the bytes.
-use Rattle.std.proofs.Common.{not, ◌≡◌, ◌≢◌, ℕ, zero, suc, ◌+◌, ◌≤◌, ◌<◌, Bool, true, false, cond, ◌&&◌, ◌||◌, eqb, List, [], ◌∷◌, ◌++◌, length, length-drop, get_or, take, drop, refl, sym, ap, subst, ◌∙◌, arith, ◌⊎◌, inl, inr}
-use Rattle.std.proofs.lemmas.Bool.{eqb-true}
+use Rattle.std.proofs.Common.{not, ◌≡◌, ℕ, suc, ◌+◌, ◌≤◌, ◌<◌, true, false, eqb, List, [], ◌∷◌, ◌++◌, length, length-drop, get_or, take, drop, refl, sym, ap, subst, ◌∙◌, arith}
 use Rattle.std.proofs.lemmas.List.{take-append-drop}
 use Rattle.std.proofs.Math.Seq.{take-append_seam, drop-append_seam}
 use Rattle.std.specs.List.{list_all}
-use Rattle.std.specs.Prelude.{if◌then◌else◌, codes, IfSome, Option, Some, None, slice_get}
+use Rattle.std.specs.Prelude.{if◌then◌else◌, IfSome}
 use Rattle.cc_tree.specs.declared.place.Spot.{Spot}
 use Rattle.cc_tree.specs.Spots.{start, next_spot, spot_behind}
-use Rattle.cc_top.specs.Names.{is_word_byte, is_free_name, is_identifier}
-use Rattle.cc_top.specs.Cut.{is_white, begins_word, is_longest, Spelled, IsCut}
-use Rattle.cc_top.specs.Tokens.{is_mark, is_form_text, word_len, token_len, text_of, mark_byte, IsKind, AreTokens, AreFormTokens, Writes, Spells, IsReadTo, IsTokens, NoTokens, IsFirst}
+use Rattle.cc_top.specs.Names.{is_word_byte}
+use Rattle.cc_top.specs.Cut.{is_white, is_longest, Spelled, IsCut}
+use Rattle.cc_top.specs.Tokens.{is_form_text, token_len, text_of, IsKind, AreTokens, AreFormTokens, Writes, Spells, IsReadTo, IsTokens, NoTokens, IsFirst}
 use Rattle.cc_top.specs.declared.token.Mark.TheVariants.{OpenParen, CloseParen, OpenBrace, CloseBrace, Semicolon}
 use Rattle.cc_top.specs.declared.token.Kind.{Kind}
 use Rattle.cc_top.specs.declared.token.Kind.TheVariants as kind
 use Rattle.cc_top.specs.declared.token.Token.{Token}
-use Rattle.cc_top.proofs.TokenLaws.{not_true, len_taken, cases, and_true, and_from, word_no_feed, mark_no_feed, FormText, mark, word, form_text, form_len, form_no_white, front_longest, free_identifier, identifier_words}
+use Rattle.cc_top.proofs.TokenLaws.{not_true, len_taken, and_true, and_from, word_no_feed, form_len, form_no_white, front_longest, free_identifier, identifier_words}
 
 -- ---- lists of tokens
 

@@ -1,8 +1,7 @@
 -- Tokens that begin with what is spelled.
-use Rattle.std.proofs.Common.{not, ◌≡◌, ◌≢◌, ℕ, zero, suc, ◌+◌, ◌*◌, ◌≤◌, ◌<◌, Bool, true, false, ◌&&◌, eqb, List, [], ◌∷◌, ◌++◌, length, drop, refl, sym, ap, subst, ◌∙◌, arith}
+use Rattle.std.proofs.Common.{◌≡◌, ◌≢◌, ℕ, zero, suc, ◌≤◌, Bool, true, false, ◌&&◌, List, [], ◌∷◌, ◌++◌, length, drop, refl, sym, ap, subst, ◌∙◌, arith}
 use Rattle.std.proofs.lemmas.Bool.{eqb-true, eq-eqb}
 use Rattle.std.specs.Prelude.{codes, Option, Some, None}
-use Rattle.std.specs.List.{flat_map}
 use Rattle.cc_tree.specs.declared.place.Spot.{Spot}
 use Rattle.cc_tree.specs.Program.{Name}
 use Rattle.cc_top.specs.Names.{is_free_name}

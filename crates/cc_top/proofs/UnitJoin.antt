@@ -1,15 +1,14 @@
 -- Tokens that cut the bytes, and parts that are written with them.
-use Rattle.std.proofs.Common.{◌≡◌, ℕ, Bool, true, false, ◌||◌, List, [], ◌∷◌, ◌++◌, refl, sym, subst}
+use Rattle.std.proofs.Common.{◌≡◌, ℕ, Bool, true, false, ◌||◌, List, [], ◌∷◌, ◌++◌, refl, subst}
 use Rattle.std.proofs.lemmas.List.Elements.{All-nil, All-cons, recursion_from_All}
-use Rattle.std.specs.Prelude.{codes, All}
+use Rattle.std.specs.Prelude.{All}
 use Rattle.std.specs.List.{flat_map, AllByRecursion}
-use Rattle.cc_tree.specs.Spots.{start}
 use Rattle.cc_tree.specs.Program.{Name}
 use Rattle.cc_top.specs.Names.{is_free_name}
-use Rattle.cc_top.specs.Cut.{Spelled, IsCut}
-use Rattle.cc_top.specs.Unit.{Part, Declaration, Definition, call_tokens, part_tokens, unit_tokens, names_of_part, CallsStand, IsUnit}
-use Rattle.cc_top.specs.Tokens.{is_mark_text, is_form_word, is_form_text, AreFormTokens, Begins, AreWritten, Spells, IsTokens, NoTokens}
-use Rattle.cc_top.specs.Reads.{IsFree, AreFree, IsFreePart, AreFreeParts, body_tokens, AreParts, NoParts}
+use Rattle.cc_top.specs.Cut.{Spelled}
+use Rattle.cc_top.specs.Unit.{Part, Declaration, Definition, part_tokens, unit_tokens, names_of_part, CallsStand, IsUnit}
+use Rattle.cc_top.specs.Tokens.{is_mark_text, is_form_word, is_form_text, AreFormTokens, AreWritten, Spells, IsTokens, NoTokens}
+use Rattle.cc_top.specs.Reads.{AreFree, IsFreePart, AreFreeParts, body_tokens, AreParts, NoParts}
 use Rattle.cc_top.specs.declared.token.Token.{Token}
 
 -- ---- the two ways to say how tokens are written
@@ -86,10 +85,10 @@ form_unit (part ∷ parts) f = form_append (part_tokens part) (unit_tokens parts
 
 pub unit_some : (bytes : List ℕ) (tokens : List Token) (parts : List Part) → IsTokens bytes tokens → AreParts tokens parts → CallsStand [] parts → IsUnit bytes parts
 unit_some bytes tokens parts t p c = record {
-    spelled = t.cuts (unit_tokens parts) (begins_spells tokens (unit_tokens parts) p.written);
-    free = free_all (flat_map names_of_part parts) (free_names parts p.free);
-    calls = c;
-  }
+  spelled = t.cuts (unit_tokens parts) (begins_spells tokens (unit_tokens parts) p.written);
+  free = free_all (flat_map names_of_part parts) (free_names parts p.free);
+  calls = c;
+}
 
 unit_free : (bytes : List ℕ) (parts : List Part) → IsUnit bytes parts → AreFreeParts parts
 unit_free bytes parts u = free_parts parts (all_free (flat_map names_of_part parts) u.free)

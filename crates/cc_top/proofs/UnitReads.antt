@@ -1,18 +1,18 @@
 -- Bodies and parts at the front of the tokens.
-use Rattle.std.proofs.Common.{◌≡◌, ◌≢◌, ℕ, zero, suc, ◌+◌, ◌*◌, ◌≤◌, ◌<◌, Bool, true, false, eqb, List, [], ◌∷◌, ◌++◌, length, length-append, drop, map, refl, sym, ap, subst, ◌∙◌, append_assoc, arith}
-use Rattle.std.proofs.lemmas.List.{append-nil, length-map}
+use Rattle.std.proofs.Common.{◌≡◌, ℕ, zero, suc, ◌+◌, ◌*◌, ◌≤◌, true, false, eqb, List, [], ◌∷◌, ◌++◌, length, drop, refl, sym, ap, subst, ◌∙◌, append_assoc, arith}
+use Rattle.std.proofs.lemmas.List.{append-nil}
 use Rattle.std.proofs.lemmas.Bool.{eqb-true}
 use Rattle.std.proofs.lemmas.Grind.{flat_map-append}
-use Rattle.std.specs.Prelude.{codes, Option, Some, None}
+use Rattle.std.specs.Prelude.{codes, Some, None}
 use Rattle.std.specs.List.{flat_map}
 use Rattle.cc_tree.specs.Program.{Name}
 use Rattle.cc_top.specs.Cut.{Spelled}
 use Rattle.cc_top.specs.Unit.{Part, Declaration, Definition, word, head_tokens, call_tokens, part_tokens, unit_tokens}
 use Rattle.cc_top.specs.Tokens.{AreTokens, Begins, AreWritten}
-use Rattle.cc_top.specs.Reads.{mark_at, head_at, call_at, IsFree, AreFree, IsFreePart, AreFreeParts, body_tokens, IsAtFront, IsBody, NoBody, IsPart, NoPart, AreCallsTo, ArePartsTo, AreParts, NoParts}
-use Rattle.cc_top.specs.declared.token.Mark.TheVariants.{OpenParen, CloseParen, OpenBrace, CloseBrace, Semicolon}
+use Rattle.cc_top.specs.Reads.{mark_at, head_at, call_at, IsFree, AreFree, IsFreePart, AreFreeParts, body_tokens, IsBody, NoBody, IsPart, NoPart, AreCallsTo, ArePartsTo, AreParts, NoParts}
+use Rattle.cc_top.specs.declared.token.Mark.TheVariants.{OpenBrace, CloseBrace, Semicolon}
 use Rattle.cc_top.specs.declared.token.Token.{Token}
-use Rattle.cc_top.proofs.UnitFronts.{begins_append, Between, begins_split, begins_drop, begins_len, tokens_drop, Sounds, call_sound, call_complete, head_sound, head_complete, mark_begins, begins_mark, one_mark, mark_no_call}
+use Rattle.cc_top.proofs.UnitFronts.{begins_append, begins_split, begins_drop, begins_len, tokens_drop, call_sound, call_complete, head_sound, head_complete, mark_begins, begins_mark, one_mark, mark_no_call}
 
 free_more : (names : List Name) (name : Name) → AreFree names → IsFree name → AreFree (names ++ name ∷ [])
 free_more [] name a f = (f, tt)
@@ -222,10 +222,10 @@ no_part_left (Definition name calls ∷ zs) b = absurd b
 
 pub parts_end : (tokens : List Token) (parts : List Part) → ArePartsTo tokens parts [] → AreParts tokens parts
 parts_end tokens parts r = record {
-    written = r.begins;
-    free = r.free;
-    only = λ ys f b. let p = r.only ys f b in p.1 ∙ ap (λ (l : List Part). parts ++ l) (no_part_left p.0 p.3) ∙ append-nil parts;
-  }
+  written = r.begins;
+  free = r.free;
+  only = λ ys f b. let p = r.only ys f b in p.1 ∙ ap (λ (l : List Part). parts ++ l) (no_part_left p.0 p.3) ∙ append-nil parts;
+}
 
 -- ---- lengths
 

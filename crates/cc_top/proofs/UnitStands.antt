@@ -1,8 +1,7 @@
 -- Calls that stand behind their heads.
-use Rattle.std.proofs.Common.{◌≡◌, ℕ, zero, suc, ◌+◌, ◌<◌, Bool, true, false, ◌&&◌, ◌||◌, List, [], ◌∷◌, ◌++◌, length, drop, map, refl, sym, ap, subst, ◌∙◌, arith, ◌⊎◌, inl, inr, get_or, add-one}
+use Rattle.std.proofs.Common.{◌≡◌, ℕ, ◌+◌, ◌<◌, Bool, true, false, ◌&&◌, ◌||◌, List, [], ◌∷◌, ◌++◌, length, drop, map, refl, sym, ap, subst, ◌∙◌, inl, inr, get_or, add-one}
 use Rattle.std.proofs.Math.Seq.{drop-cons}
 use Rattle.std.proofs.lemmas.Cmp.{nat_list_eq_equiv}
-use Rattle.std.proofs.lemmas.List.Folds.{list_any-append}
 use Rattle.std.proofs.lemmas.List.Sums.{AllPass-from_list_all, list_all-from_AllPass}
 use Rattle.std.proofs.lemmas.Map.Views.{list_any-from_Contains, Contains-from_any}
 use Rattle.std.proofs.lemmas.Slice.Eq.{bytes_eq-Decides}
@@ -91,11 +90,11 @@ same_on keys more heads head s m text = m text ∙ ap (λ (b : Bool). bytes_eq t
 pub stand_on : (parts : List Part) (part : Part) (rest : List Part) (keys more : List (List ℕ)) → StandTo parts (part ∷ rest) keys → ((text : List ℕ) → is_among more text ≡ (bytes_eq text (head_text part) || is_among keys text))
     → calls_among more part ≡ true → StandTo parts rest more
 stand_on parts (Declaration name) rest keys more s m e = record {
-    heads = name.text ∷ s.heads;
-    same = same_on keys more s.heads name.text s.same m;
-    back = s.back;
-    forth = s.forth;
-  }
+  heads = name.text ∷ s.heads;
+  same = same_on keys more s.heads name.text s.same m;
+  back = s.back;
+  forth = s.forth;
+}
 stand_on parts (Definition name calls) rest keys more s m e =
     let same = same_on keys more s.heads name.text s.same m in
     let known = known_contained (name.text ∷ s.heads) calls (sym (all_same more (name.text ∷ s.heads) calls same) ∙ e) in

@@ -1,5 +1,5 @@
 -- The tokens of the first form, and the spelled tokens that they are written as.
-use Rattle.std.specs.Prelude.{◌≡◌, ◌≤◌, if◌then◌else◌, ◌==◌, ◌&&◌, ◌||◌, ℕ, suc, List, [], ◌∷◌, Bool, true, false, not, Option, Some, length, codes, take, IfSome}
+use Rattle.std.specs.Prelude.{◌≡◌, ◌≤◌, if◌then◌else◌, ◌==◌, ◌||◌, ℕ, suc, List, [], ◌∷◌, Bool, true, false, length, codes, take, IfSome}
 use Rattle.std.specs.Str.{bytes_eq}
 use Rattle.cc_tree.specs.declared.place.Spot.{Spot}
 use Rattle.cc_tree.specs.Spots.{start}

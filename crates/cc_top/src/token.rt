@@ -89,6 +89,7 @@ pub const KEYWORDS: [&str; 44] = [
 // Words of extensions, which are refused.
 pub const EXTENSIONS: [&str; 4] = ["asm", "__asm", "__asm__", "__attribute__"];
 
+// Whether the text is one of the words.
 fn is_one_of(text: &str, words: &[&str]) -> bool
     ensures { result ≡ list_any (λ word. bytes_eq word.now text.now) words.now }
 {
@@ -198,6 +199,7 @@ fn first_kind(text: &[u8]) -> Option<(Kind<'_>, usize)>
     }
 }
 
+// The bytes behind the first ones.
 fn behind(text: &[u8], len: usize) -> &[u8]
     requires { len ≤ length text.now }
     ensures { result.now ≡ drop len text.now }

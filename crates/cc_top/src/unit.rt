@@ -111,10 +111,7 @@ fn first_call<'a>(tokens: &[Token<'a>]) -> Option<Name<'a>>
 }
 
 // The calls of a body whose `{` is read, up to and with its `}`.
-fn first_calls<'a>(
-    alloc: Global,
-    tokens: &[Token<'a>],
-) -> Result<Option<Vec<Name<'a>>>, AllocError>
+fn first_calls<'a>(alloc: Global, tokens: &[Token<'a>]) -> Result<Option<Vec<Name<'a>>>, AllocError>
     requires { AreTokens tokens.now }
     ensures some { IfOk result (λ read. IfSome read (λ calls. reads.IsBody tokens.now (map name_view calls.items))) }
     ensures none { IfOk result (λ read. IfNone read (reads.NoBody tokens.now)) }
@@ -166,10 +163,7 @@ fn part_len(part: &Part<'_>) -> usize
 }
 
 // The parts that the tokens spell, or none.
-fn read_parts<'a>(
-    alloc: Global,
-    tokens: &[Token<'a>],
-) -> Result<Option<Vec<Part<'a>>>, AllocError>
+fn read_parts<'a>(alloc: Global, tokens: &[Token<'a>]) -> Result<Option<Vec<Part<'a>>>, AllocError>
     requires kinds { AreTokens tokens.now }
     requires small { length tokens.now < 2 ^ 63 }
     ensures some { IfOk result (λ read. IfSome read (λ parts. reads.AreParts tokens.now (parts_view parts.items))) }

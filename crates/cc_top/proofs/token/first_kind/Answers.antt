@@ -1,7 +1,5 @@
-use Rattle.std.proofs.Common.{sym, ◌≡◌}
-use Rattle.std.specs.Prelude.{IfNone}
-use Rattle.cc_top.specs.Tokens.{is_form_text, token_len}
-use Rattle.cc_top.proofs.TokenLaws.{len_taken, word_none, word_some}
+use Rattle.std.proofs.Common.{sym}
+use Rattle.cc_top.proofs.TokenLaws.{word_none, word_some}
 use Rattle.cc_top.proofs.token.first_kind.Goals as goal
 
 pub returns-in_err-kind-in-None-clause-none : goal.returns-in_err-kind-in-None-clause-none

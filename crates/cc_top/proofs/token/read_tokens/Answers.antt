@@ -1,8 +1,5 @@
-use Rattle.std.proofs.Common.{◌+◌, ◌≤◌, get_or, sym, subst, ◌≡◌, ◌∙◌, List, ℕ, ap, arith, length, length-drop}
-use Rattle.cc_tree.specs.declared.place.Spot.{Spot}
-use Rattle.cc_top.specs.Tokens.{IsReadTo}
-use Rattle.cc_top.specs.declared.token.Token.{Token}
-use Rattle.cc_top.proofs.TokenSteps.{read_start, step_white, step_none, step_token, step_end, line_grows, column_grows, drop_len}
+use Rattle.std.proofs.Common.{◌+◌, ◌≤◌, get_or, sym, ◌≡◌, ◌∙◌, arith, length}
+use Rattle.cc_top.proofs.TokenSteps.{step_white, step_none, step_token, step_end, line_grows, column_grows, drop_len}
 use Rattle.cc_top.proofs.token.read_tokens.Goals as goal
 
 pub loop-rest-preserved-then-is_white : goal.loop-rest-preserved-then-is_white

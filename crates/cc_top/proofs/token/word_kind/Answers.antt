@@ -1,5 +1,4 @@
-use Rattle.std.proofs.Common.{sym, ◌≡◌, ◌∙◌, true, false}
-use Rattle.cc_top.specs.Names.{is_identifier}
+use Rattle.std.proofs.Common.{sym, ◌∙◌}
 use Rattle.cc_top.proofs.TokenLaws.{form_word_identifier, identifier_utf8, false_by}
 use Rattle.cc_top.proofs.token.word_kind.Goals as goal
 

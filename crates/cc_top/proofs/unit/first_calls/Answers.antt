@@ -1,4 +1,4 @@
-use Rattle.std.proofs.Common.{sym, ◌≡◌, ◌∙◌, map}
+use Rattle.std.proofs.Common.{sym, ◌∙◌, map}
 use Rattle.std.proofs.lemmas.List.{map-append}
 use Rattle.cc_top.specs.Views.{name_view}
 use Rattle.cc_top.proofs.UnitReads.{calls_more, calls_some, calls_none}

@@ -1,9 +1,9 @@
 use Rattle.std.proofs.Common.{sym, subst, ap, ◌≡◌, ◌∙◌, true, false, List, map, drop}
-use Rattle.cc_top.specs.Reads.{mark_at, IsBody}
+use Rattle.cc_top.specs.Reads.{mark_at, IsBody, NoBody}
 use Rattle.cc_top.specs.Views.{name_view}
 use Rattle.cc_top.specs.declared.token.Mark.TheVariants.{OpenBrace, Semicolon}
 use Rattle.cc_top.specs.declared.token.Token.{Token}
-use Rattle.cc_top.proofs.UnitReads.{head_len, part_no_head, part_declared, part_neither, part_defined}
+use Rattle.cc_top.proofs.UnitReads.{head_len, part_no_head, part_declared, part_neither, part_defined, part_no_body}
 use Rattle.cc_top.proofs.unit.first_part.Goals as goal
 
 pub returns-in_default-clause-none : goal.returns-in_default-clause-none
@@ -30,3 +30,9 @@ returns-in-Some-2-clause-some c =
     (subst (λ (r : List Token). mark_at r 0 Semicolon ≡ false) c.behind-rest.ensures (sym c.is_mark.ensures ∙ c.if-is_mark.false))
     (subst (λ (r : List Token). mark_at r 0 OpenBrace ≡ true) c.behind-rest.ensures (sym c.is_mark-2.ensures ∙ c.if-not-is_mark.false))
     (subst (λ (r : List Token). IsBody r (map name_view c.in-Some-2.calls.items)) (c.behind.ensures ∙ ap (λ (r : List Token). drop 1 r) c.behind-rest.ensures) body)
+
+pub returns-in-None-clause-none : goal.returns-in-None-clause-none
+returns-in-None-clause-none c =
+    let none : NoBody c.behind.result.now = rw c.in-None.is at c.in_ok-calls.ensures.none in
+    part_no_body c.args.tokens.now c.requires (subst (λ (r : List Token). mark_at r 0 Semicolon ≡ false) c.behind-rest.ensures (sym c.is_mark.ensures ∙ c.if-is_mark.false))
+    (subst (λ (r : List Token). NoBody r) (c.behind.ensures ∙ ap (λ (r : List Token). drop 1 r) c.behind-rest.ensures) none)

@@ -1,6 +1,6 @@
-use Rattle.std.proofs.Common.{sym, subst, ap, ◌≡◌, ◌≤◌, ◌+◌, ◌∙◌, true, false, List, map, drop, length, length-drop, arith}
+use Rattle.std.proofs.Common.{sym, ap, ◌≡◌, ◌∙◌, drop, length, length-drop, arith}
 use Rattle.std.proofs.lemmas.List.{map-append}
-use Rattle.cc_top.specs.Reads.{IsPart, NoPart, ArePartsTo}
+use Rattle.cc_top.specs.Reads.{IsPart}
 use Rattle.cc_top.specs.Unit.{part_tokens}
 use Rattle.cc_top.specs.Views.{part_view, parts_view}
 use Rattle.cc_top.specs.declared.token.Token.{Token}
@@ -26,7 +26,7 @@ pub loop-rest-preserved : goal.loop-rest-preserved
 loop-rest-preserved c =
     let part : IsPart c.loop-rest.rest.now (part_view c.in-Some.part) = rw c.in-Some.is at c.in_ok-part.ensures.some in
     let e : c.behind-rest.result.now ≡ drop (length (part_tokens (part_view c.in-Some.part))) c.loop-rest.rest.now =
-      c.behind-rest.ensures ∙ ap (λ n. drop n c.loop-rest.rest.now) c.part_len.ensures in
+    c.behind-rest.ensures ∙ ap (λ n. drop n c.loop-rest.rest.now) c.part_len.ensures in
     record {
       read = rw (c.in_ok-push.ensures.items, e)
           (rw map-append (parts_more c.args.tokens.now (parts_view c.loop-rest.parts.items) c.loop-rest.rest.now (part_view c.in-Some.part) c.loop-rest.invariant.read

@@ -1,4 +1,4 @@
-use Rattle.std.proofs.Common.{sym, subst, ◌≡◌, ◌∙◌, true, false, List, []}
+use Rattle.std.proofs.Common.{sym, subst, ◌≡◌, true, false, List, []}
 use Rattle.cc_top.specs.Tokens.{IsTokens, NoTokens}
 use Rattle.cc_top.specs.Reads.{AreParts, NoParts}
 use Rattle.cc_top.specs.Unit.{CallsStand}
@@ -35,6 +35,6 @@ returns-clause-none c =
     no_calls c.args.bytes.now c.in-Some.tokens.items (parts_view c.in-Some-2.parts.items) tokens
     (subst (λ (ts : List Token). AreParts ts (parts_view c.in-Some-2.parts.items)) c.deref.ensures.value parts)
     (λ stand.
-        let yes : c.in_ok-calls_stand.field-0 ≡ true = c.in_ok-calls_stand.ensures.1 (subst (λ (ps : List Part). CallsStand [] (parts_view ps)) (sym c.deref-2.ensures.value) stand) in
-        let no : c.in_ok-calls_stand.field-0 ≡ false = c.if-branch.false in
-        cc)
+    let yes : c.in_ok-calls_stand.field-0 ≡ true = c.in_ok-calls_stand.ensures.1 (subst (λ (ps : List Part). CallsStand [] (parts_view ps)) (sym c.deref-2.ensures.value) stand) in
+    let no : c.in_ok-calls_stand.field-0 ≡ false = c.if-branch.false in
+    cc)

@@ -1,0 +1,73 @@
+-- A file that the reading reaches and that is missing or too long is what is refused.
+use Rattle.std.proofs.Common.{◌≡◌, ◌≢◌, ◌⊎◌, ◌<◌, ◌≤◌, ℕ, List, length, Option, Some, None, IfSome, inl, inr, ⊎_elim, refl, sym, ap, ◌∙◌, arith, subst}
+use Rattle.std.specs.Prelude.{MatchOption}
+use Rattle.std.specs.FinMap.{get}
+use Rattle.std.specs.Io.KnownBytes.{append_known}
+use Rattle.std.proofs.lemmas.Option.{same_Some}
+use Rattle.cc_io.specs.Shelf.{Files}
+use Rattle.cc_top.specs.Words.{limit, list_words}
+use Rattle.cc_top.specs.Project.{Component, Project, IsProject, project_members}
+use Rattle.cc_top.specs.Refusal.{missing_line, long_line}
+use Rattle.cc_top.specs.Answer.{Reply, refused, AfterRead, OfFiles, OfProject, IsAnswer, Reads, Holds}
+
+-- the file is missing, or too long, and this is its line
+pub data Fails (files : Files) (name : List ℕ) : List ℕ → Type 0 where
+  Lacks : get files name ≡ None → Fails files name (missing_line name)
+  Passes : {bytes : List ℕ} → get files name ≡ Some bytes → limit < length bytes → Fails files name (long_line name)
+
+at_read : (files : Files) (name line : List ℕ) (next : List ℕ → Reply → Type 0) (reply : Reply) → Fails files name line → AfterRead files name next reply → reply ≡ refused line 3
+at_read files name line next reply (Lacks is) after = rw is at after
+at_read files name line next reply (Passes {bytes = bytes} is long) after =
+    ⊎_elim (λ p. p.1) (λ p. absurd (omega (arith, p.0, long))) (rw is at after)
+
+past_read : (files : Files) (name bytes : List ℕ) (next : List ℕ → Reply → Type 0) (reply : Reply) → Holds files name bytes → AfterRead files name next reply → next bytes reply
+past_read files name bytes next reply held after =
+    ⊎_elim (λ p. absurd (omega (arith, p.0, held.1))) (λ p. p.1) (rw held.0 at after)
+
+same_component : (c d : Component) → c.name ≡ d.name → c.file ≡ d.file → c ≡ d
+same_component c d names files =
+    let with_name : List ℕ → Component = λ x. record { name = x; file = c.file } in
+    let with_file : List ℕ → Component = λ x. record { name = d.name; file = x } in
+    ap with_name names ∙ ap with_file files
+
+-- bytes say at most one project
+pub same_project : (p q : Project) → project_members p ≡ project_members q → p ≡ q
+same_project p q e =
+    let entries : p.entry ≡ q.entry = cc in
+    let names : p.first.name ≡ q.first.name = cc in
+    let files : p.first.file ≡ q.first.file = cc in
+    let names' : p.second.name ≡ q.second.name = cc in
+    let files' : p.second.file ≡ q.second.file = cc in
+    let with_entry : List ℕ → Project = λ x. record { entry = x; first = p.first; second = p.second } in
+    let with_first : Component → Project = λ x. record { entry = q.entry; first = x; second = p.second } in
+    let with_second : Component → Project = λ x. record { entry = q.entry; first = q.first; second = x } in
+    ap with_entry entries ∙ ap with_first (same_component p.first q.first names files) ∙ ap with_second (same_component p.second q.second names' files')
+
+abbrev Behind : Files → List ℕ → Project → Reply → Type 0
+Behind files name project = AfterRead files project.first.file (λ first. AfterRead files project.second.file (λ second. OfFiles name project first second))
+
+of_project : (files : Files) (name bytes : List ℕ) (project : Project) (reply : Reply) → IsProject bytes project → OfProject files name bytes reply → Behind files name project reply
+of_project files name bytes project reply is of =
+    ⊎_elim (λ p. absurd (p.0 project is))
+      (λ p. subst (λ q. Behind files name q reply) (same_project p.0 project (same_Some _ _ (sym p.1.document ∙ is.document))) p.2) of
+
+same_word : (p q : List ℕ) → list_words p ≡ list_words q → p ≡ q
+same_word p q e = cc
+
+pub reached_fails : (words : List (List ℕ)) (files : Files) (name line : List ℕ) (reply : Reply) → Reads words files name → Fails files name line → IsAnswer words files reply
+    → reply ≡ refused line 3
+reached_fails words files name line reply reads fails answer =
+    ⊎_elim (λ p. absurd (p.0 reads.0 reads.1))
+      (λ p.
+        let same : p.0 ≡ reads.0 = same_word p.0 reads.0 (sym p.1 ∙ reads.1) in
+        let after : AfterRead files reads.0 (OfProject files reads.0) reply = subst (λ n. AfterRead files n (OfProject files n) reply) same p.2 in
+        ⊎_elim (λ e. at_read files reads.0 line (OfProject files reads.0) reply (subst (λ n. Fails files n line) e fails) after)
+          (λ q.
+            let behind : Behind files reads.0 q.1 reply = of_project files reads.0 q.0 q.1 reply q.3 (past_read files reads.0 q.0 (OfProject files reads.0) reply q.2 after) in
+            let second : List ℕ → List ℕ → Reply → Type 0 = λ one two. OfFiles reads.0 q.1 one two in
+            let next : List ℕ → Reply → Type 0 = λ one. AfterRead files q.1.second.file (second one) in
+            ⊎_elim (λ e. at_read files q.1.first.file line next reply (subst (λ n. Fails files n line) e fails) behind)
+              (λ r. at_read files q.1.second.file line (second r.0) reply (subst (λ n. Fails files n line) r.2 fails) (past_read files q.1.first.file r.0 next reply r.1 behind))
+              q.4)
+          reads.2)
+      answer
