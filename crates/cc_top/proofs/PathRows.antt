@@ -1,8 +1,10 @@
 -- The rows of the calls that are chosen.
-use Rattle.std.proofs.Common.{◌≡◌, ◌≢◌, ◌⊎◌, ℕ, zero, suc, ◌+◌, ◌-◌, ◌<◌, ◌≤◌, inl, inr, ⊎_elim, List, [], ◌∷◌, ◌++◌, length, Some, Bool, true, false, cond, eqb, refl, sym, ap, ◌∙◌, subst, arith, All, Contains, slice_get}
-use Rattle.std.proofs.lemmas.Bool.{cases_eq}
+use Rattle.std.proofs.Common.{◌≡◌, ◌≢◌, ◌⊎◌, ℕ, zero, suc, ◌+◌, ◌-◌, ◌<◌, ◌≤◌, inl, inr, ⊎_elim, List, [], ◌∷◌, ◌++◌, length, Some, Bool, true, false, cond, eqb, refl, sym, ap, ◌∙◌, subst, arith, All, Contains, slice_get, get_or, not}
+use Rattle.std.specs.Prelude.{◌↔◌}
+use Rattle.std.proofs.lemmas.Bool.{cases_eq, eqb-true, eqb-false, not-true, not-false}
 use Rattle.std.proofs.lemmas.List.Elements.{All-nil, All-push, Contains-push, Contains-push_cases, Contains-append_left}
-use Rattle.std.proofs.lemmas.Option.{slice_get_within, same_Some}
+use Rattle.std.proofs.lemmas.Option.{slice_get_read, slice_get_within, same_Some}
+use Rattle.cc_base.specs.Edges.{IsMarked}
 use Rattle.cc_base.proofs.Lists.{Contains-nil}
 use Rattle.cc_tree.specs.Program as tree
 use Rattle.cc_tree.specs.Program.{IsSite}
@@ -15,7 +17,7 @@ use Rattle.cc_top.specs.declared.program.Call.{Call}
 use Rattle.cc_top.specs.declared.program.Function.{Function}
 use Rattle.cc_top.specs.declared.program.Program.{Program}
 use Rattle.cc_top.proofs.PathPlaces.{ascends_at, nested_at, place_own, place_same}
-use Rattle.cc_top.proofs.PathSites.{view_of, function_view, site_at, flat_of}
+use Rattle.cc_top.proofs.PathSites.{view_of, function_view, linked_at, site_at, flat_of}
 use Rattle.cc_top.proofs.ProgramNames.{Contains-here, Contains-there}
 
 -- the row of call k
@@ -86,9 +88,6 @@ module _ (program : Program) (k : ℕ) (call : Call) (sound : IsSound program) (
 
     pub coupling_apart : IsCoupling (program_view program) program.entry (row_of program.calls.items k call) → caller.file.0 ≢ callee.file.0
     coupling_apart coupling same = coupling.apart (caller_file coupling.site ∙ same ∙ sym (callee_file coupling.site))
-
-    call_of : IsCallOf (program_view program) (row_of program.calls.items k call) call
-    call_of = (site_at program k call sound at, refl, refl, site_call (site_at program k call sound at) caller is_caller)
 
 -- the calls that are chosen of the first n
 pub record IsChosen (program : Program) (n : ℕ) (chosen : List Call) : Type 0 where
@@ -167,3 +166,39 @@ chosen_all program n chosen is_sound long known = (
         ap (λ h. record { f = h; i = place program.calls.items k h; g = call.callee }) f
         ∙ ap (λ j. record { f = row.f; i = j; g = call.callee }) i
         ∙ ap (λ h. record { f = row.f; i = row.i; g = h }) g
+
+-- what the code read of a call, its functions, and whether it is reached
+pub record IsRead (program : Program) (n : ℕ) (call : Call) (caller callee : Function) (reached : List Bool) (mark : Bool) : Type 0 where
+  pub at : slice_get program.calls.items n ≡ Some call
+  pub is_caller : slice_get program.functions.items call.caller ≡ Some caller
+  pub is_callee : slice_get program.functions.items call.callee ≡ Some callee
+  pub marked : slice_get reached n ≡ Some mark
+  pub exact : IsMarked reached n ↔ IsReachable (program_view program) program.entry (At call.caller (place program.calls.items n call.caller))
+
+pub is_read : (program : Program) (n : ℕ) (call : Call) (caller callee : Function) (reached : List Bool) (mark : Bool) → IsSound program → n < length program.calls.items → length reached ≡ length program.calls.items
+    → ((k : ℕ) (c : Call) → slice_get program.calls.items k ≡ Some c → IsMarked reached k ↔ IsReachable (program_view program) program.entry (At c.caller (place program.calls.items k c.caller)))
+    → call ≡ get_or program.calls.items n call → caller ≡ get_or program.functions.items call.caller caller → callee ≡ get_or program.functions.items call.callee callee → mark ≡ get_or reached n mark → IsRead program n call caller callee reached mark
+is_read program n call caller callee reached mark sound lt long exact is caller_is callee_is mark_is =
+    let at = slice_get_read program.calls.items (length program.calls.items) n call refl lt is in
+    let linked = linked_at program n call sound at in
+    record {
+      at = at;
+      is_caller = slice_get_read program.functions.items (length program.functions.items) call.caller caller refl linked.caller caller_is;
+      is_callee = slice_get_read program.functions.items (length program.functions.items) call.callee callee refl (slice_get_within program.functions.items call.callee linked.callee linked.is_callee) callee_is;
+      marked = slice_get_read reached (length reached) n mark refl (omega arith) mark_is;
+      exact = exact n call at;
+    }
+
+pub read_taken : (program : Program) (n : ℕ) (call : Call) (caller callee : Function) (reached : List Bool) (mark differ : Bool) (chosen : List Call) → IsSound program → IsRead program n call caller callee reached mark → mark ≡ true → differ ≡ not (eqb caller.file.0 callee.file.0) → differ ≡ true → IsChosen program n chosen → IsChosen program (n + 1) (chosen ++ call ∷ [])
+read_taken program n call caller callee reached mark differ chosen sound read is differ_is differs known =
+    chosen_more program n call chosen caller sound read.at read.is_caller
+    (coupling_at program n call sound read.at caller callee read.is_caller read.is_callee (eqb-false caller.file.0 callee.file.0 (not-true (eqb caller.file.0 callee.file.0) (sym differ_is ∙ differs))) (read.exact.0 (read.marked ∙ ap Some is)))
+    known
+
+pub read_same : (program : Program) (n : ℕ) (call : Call) (caller callee : Function) (reached : List Bool) (mark differ : Bool) (chosen : List Call) → IsSound program → IsRead program n call caller callee reached mark → differ ≡ not (eqb caller.file.0 callee.file.0) → differ ≡ false → IsChosen program n chosen → IsChosen program (n + 1) chosen
+read_same program n call caller callee reached mark differ chosen sound read differ_is same known =
+    chosen_skip program n call chosen read.at (λ coupling. coupling_apart program n call sound read.at caller callee read.is_caller read.is_callee coupling (eqb-true caller.file.0 callee.file.0 (not-false (eqb caller.file.0 callee.file.0) (sym differ_is ∙ same)))) known
+
+pub read_unreached : (program : Program) (n : ℕ) (call : Call) (caller callee : Function) (reached : List Bool) (mark : Bool) (chosen : List Call) → IsRead program n call caller callee reached mark → mark ≡ false → IsChosen program n chosen → IsChosen program (n + 1) chosen
+read_unreached program n call caller callee reached mark chosen read is known =
+    chosen_skip program n call chosen read.at (λ coupling. (let e : Some true ≡ Some false = sym (read.exact.1 coupling.reachable) ∙ read.marked ∙ ap Some is in cc)) known
