@@ -1,5 +1,5 @@
 -- The rows of the calls that are chosen.
-use Rattle.std.proofs.Common.{◌≡◌, ◌≢◌, ◌⊎◌, ℕ, zero, suc, ◌+◌, ◌-◌, ◌<◌, ◌≤◌, inl, inr, ⊎_elim, List, [], ◌∷◌, ◌++◌, length, Some, Bool, true, false, cond, eqb, refl, sym, ap, ◌∙◌, subst, arith, All, Contains, slice_get, get_or, not}
+use Rattle.std.proofs.Common.{◌≡◌, ◌≢◌, ℕ, zero, suc, ◌+◌, ◌-◌, ◌<◌, ◌≤◌, inl, inr, ⊎_elim, List, [], ◌∷◌, ◌++◌, length, Some, Bool, true, false, cond, eqb, refl, sym, ap, ◌∙◌, subst, arith, Contains, slice_get, get_or, not}
 use Rattle.std.specs.Prelude.{◌↔◌}
 use Rattle.std.proofs.lemmas.Bool.{cases_eq, eqb-true, eqb-false, not-true, not-false}
 use Rattle.std.proofs.lemmas.List.Elements.{All-nil, All-push, Contains-push, Contains-push_cases, Contains-append_left}
@@ -16,7 +16,7 @@ use Rattle.cc_top.specs.Views.{name_view, program_view, IsCallOf, AreCallsOf}
 use Rattle.cc_top.specs.declared.program.Call.{Call}
 use Rattle.cc_top.specs.declared.program.Function.{Function}
 use Rattle.cc_top.specs.declared.program.Program.{Program}
-use Rattle.cc_top.proofs.PathPlaces.{ascends_at, nested_at, place_own, place_same}
+use Rattle.cc_top.proofs.PathPlaces.{ascends_at, nested_at, place_own}
 use Rattle.cc_top.proofs.PathSites.{view_of, function_view, linked_at, site_at, flat_of}
 use Rattle.cc_top.proofs.ProgramNames.{Contains-here, Contains-there}
 
@@ -43,12 +43,15 @@ place_grows calls m (suc d) f =
 -- an earlier call's row stands before a later call's
 rows_before : (program : Program) (j k : ℕ) (a b : Call) → IsSound program → j < k → slice_get program.calls.items j ≡ Some a → slice_get program.calls.items k ≡ Some b → IsBefore (row_of program.calls.items j a) (row_of program.calls.items k b)
 rows_before program j k a b sound lt at_j at_k = ⊎_elim
-    (λ same. inr (same, (
-      let own = place_own program.calls.items j a b.caller at_j same in
-      let e : suc j + (k - suc j) ≡ k = omega arith in
-      let grows : place program.calls.items (suc j) b.caller ≤ place program.calls.items k b.caller = subst (λ n. place program.calls.items (suc j) b.caller ≤ place program.calls.items n b.caller) e (place_grows program.calls.items (suc j) (k - suc j) b.caller) in
-      let here : place program.calls.items j a.caller ≡ place program.calls.items j b.caller = ap (place program.calls.items j) same in
-      omega arith)))
+    (λ same. inr (
+      same,
+      (
+          let own = place_own program.calls.items j a b.caller at_j same in
+          let e : suc j + (k - suc j) ≡ k = omega arith in
+          let grows : place program.calls.items (suc j) b.caller ≤ place program.calls.items k b.caller = subst (λ n. place program.calls.items (suc j) b.caller ≤ place program.calls.items n b.caller) e (place_grows program.calls.items (suc j) (k - suc j) b.caller) in
+          let here : place program.calls.items j a.caller ≡ place program.calls.items j b.caller = ap (place program.calls.items j) same in
+          omega arith),
+    ))
     (λ differ. inl (let le = ascends_at program.calls.items j k a b sound.ascending lt at_j at_k in omega arith))
     (cases_eq a.caller b.caller)
 
@@ -117,7 +120,7 @@ chosen_skip program n call chosen at none known = record {
   from = λ row has. (let k = known.from row has in (k.0, k.1, (let lt = k.2 in omega arith), k.3, k.4));
   complete = λ k c lt there coupling. ⊎_elim
       (λ same. absurd (none (subst (λ (d : Call). IsCoupling (program_view program) program.entry (row_of program.calls.items n d)) (same_Some c call (sym there ∙ ap (slice_get program.calls.items) same ∙ at))
-        (subst (λ j. IsCoupling (program_view program) program.entry (row_of program.calls.items j c)) same coupling))))
+      (subst (λ j. IsCoupling (program_view program) program.entry (row_of program.calls.items j c)) same coupling))))
       (λ differ. known.complete k c (omega arith) there coupling)
       (cases_eq k n);
   ordered = known.ordered;
@@ -136,9 +139,9 @@ chosen_more program n call chosen caller is_sound at is_caller coupling known = 
       (Contains-push_cases known.rows (row_of program.calls.items n call) row has);
   complete = λ k c lt there is. ⊎_elim
       (λ same.
-        let d : c ≡ call = same_Some c call (sym there ∙ ap (slice_get program.calls.items) same ∙ at) in
-        let row : row_of program.calls.items n call ≡ row_of program.calls.items k c = ap (λ (e : Call). row_of program.calls.items n e) (sym d) ∙ ap (λ j. row_of program.calls.items j c) (sym same) in
-        subst (Contains (known.rows ++ row_of program.calls.items n call ∷ [])) row (Contains-push known.rows (row_of program.calls.items n call)))
+      let d : c ≡ call = same_Some c call (sym there ∙ ap (slice_get program.calls.items) same ∙ at) in
+      let row : row_of program.calls.items n call ≡ row_of program.calls.items k c = ap (λ (e : Call). row_of program.calls.items n e) (sym d) ∙ ap (λ j. row_of program.calls.items j c) (sym same) in
+      subst (Contains (known.rows ++ row_of program.calls.items n call ∷ [])) row (Contains-push known.rows (row_of program.calls.items n call)))
       (λ differ. Contains-append_left known.rows (row_of program.calls.items n call ∷ []) (row_of program.calls.items k c) (known.complete k c (omega arith) there is))
       (cases_eq k n);
   ordered = ordered_push known.rows (row_of program.calls.items n call) known.ordered
@@ -152,10 +155,10 @@ chosen_all program n chosen is_sound long known = (
   record {
     sound = known.sound;
     complete = λ row coupling. (
-      let flat = flat_of program row.f row.i row.g is_sound coupling.site in
-      let same : row_of program.calls.items flat.number flat.call ≡ row = row_same row flat.number flat.call flat.caller flat.placed flat.callee in
-      subst (Contains known.rows) same
-      (known.complete flat.number flat.call (let lt = slice_get_within program.calls.items flat.number flat.call flat.at in omega arith) flat.at (subst (IsCoupling (program_view program) program.entry) (sym same) coupling)));
+        let flat = flat_of program row.f row.i row.g is_sound coupling.site in
+        let same : row_of program.calls.items flat.number flat.call ≡ row = row_same row flat.number flat.call flat.caller flat.placed flat.callee in
+        subst (Contains known.rows) same
+        (known.complete flat.number flat.call (let lt = slice_get_within program.calls.items flat.number flat.call flat.at in omega arith) flat.at (subst (IsCoupling (program_view program) program.entry) (sym same) coupling)));
     ordered = known.ordered;
   },
   known.are,

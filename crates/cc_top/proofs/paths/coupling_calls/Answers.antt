@@ -1,4 +1,4 @@
-use Rattle.std.proofs.Common.{◌≡◌, ◌∙◌, ◌<◌, ◌≤◌, length, arith}
+use Rattle.std.proofs.Common.{◌∙◌, ◌<◌, ◌≤◌, length, arith}
 use Rattle.cc_top.proofs.PathRows.{IsRead, is_read, read_taken, read_same, read_unreached, chosen_none, chosen_all}
 use Rattle.cc_top.proofs.paths.coupling_calls.Goals as goal
 use Rattle.cc_top.proofs.paths.coupling_calls.Goals.{then-index+then-ne+in_ok-push, else-index, else-index-via-then-index+else-ne, else-index-via-else-index}
@@ -18,13 +18,13 @@ loop-i-preserved c =
     let chosen = c.loop-i.couplings.items in
     let lt : n < length program.calls.items = (let t = c.loop-i-test.true in let e = c.len-i-end.ensures ∙ program.calls.ok.0 in omega arith) in
     let read : IsRead program n call caller callee reached mark =
-        is_read program n call caller callee reached mark c.requires lt c.in_ok-reached.ensures.len c.in_ok-reached.ensures.exact c.index-call.ensures c.index.ensures c.index-in-loop-i.ensures c.index-in-loop-i-2.ensures in
+    is_read program n call caller callee reached mark c.requires lt c.in_ok-reached.ensures.len c.in_ok-reached.ensures.exact c.index-call.ensures c.index.ensures c.index-in-loop-i.ensures c.index-in-loop-i-2.ensures in
     elim c.if-index.branch [
-    then-index+then-ne+in_ok-push w ↦ rw (w.couplings-is, w.in_ok-push.ensures.items) (read_taken program n call caller callee reached mark w.ne.result chosen c.requires read w.if-index.true w.ne.ensures w.if-ne.true c.loop-i.invariant)
-    | else-index w ↦ rw w.couplings-is (elim w.else-index.branch [
-      else-index-via-then-index+else-ne v ↦ read_same program n call caller callee reached mark v.ne.result chosen c.requires read v.ne.ensures v.if-ne.false c.loop-i.invariant
-      | else-index-via-else-index v ↦ read_unreached program n call caller callee reached mark chosen read v.if-index.false c.loop-i.invariant
-    ])
+      | then-index+then-ne+in_ok-push w ↦ rw (w.couplings-is, w.in_ok-push.ensures.items) (read_taken program n call caller callee reached mark w.ne.result chosen c.requires read w.if-index.true w.ne.ensures w.if-ne.true c.loop-i.invariant)
+      | else-index w ↦ rw w.couplings-is (elim w.else-index.branch [
+        | else-index-via-then-index+else-ne v ↦ read_same program n call caller callee reached mark v.ne.result chosen c.requires read v.ne.ensures v.if-ne.false c.loop-i.invariant
+        | else-index-via-else-index v ↦ read_unreached program n call caller callee reached mark chosen read v.if-index.false c.loop-i.invariant
+      ])
     ]
 
 pub returns : goal.returns
