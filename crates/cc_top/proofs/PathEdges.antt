@@ -1,10 +1,10 @@
 -- The edges that the code makes.
-use Rattle.std.proofs.Common.{◌≡◌, ◌≢◌, ◌⊎◌, ℕ, ◌+◌, ◌*◌, ◌<◌, ◌≤◌, inl, inr, ⊎_elim, List, [], ◌∷◌, ◌++◌, length, map, get_or, take, Some, Bool, true, false, cond, not, refl, sym, ap, ◌∙◌, subst, arith, Contains, slice_get, append-nil, replicate}
+use Rattle.std.proofs.Common.{◌≡◌, ◌≢◌, ◌⊎◌, ℕ, ◌+◌, ◌*◌, ◌<◌, ◌≤◌, inl, inr, ⊎_elim, List, [], ◌∷◌, ◌++◌, length, map, take, Some, Bool, true, false, cond, not, refl, sym, ap, ◌∙◌, subst, arith, Contains, slice_get, append-nil, replicate}
 use Rattle.std.specs.Prelude.{◌↔◌, slice_set}
 use Rattle.std.proofs.lemmas.Bool.{cases_eq, cases_Bool}
 use Rattle.std.proofs.lemmas.List.{take_all}
 use Rattle.std.proofs.lemmas.List.Elements.{Contains-push, Contains-push_cases, Contains-append_left}
-use Rattle.std.proofs.lemmas.Option.{slice_get-get_or, slice_get_within, same_Some}
+use Rattle.std.proofs.lemmas.Option.{slice_get_within, same_Some}
 use Rattle.cc_base.specs.declared.reach.Edge.{Edge}
 use Rattle.cc_base.specs.Edges.{IsMarked}
 use Rattle.cc_base.proofs.Marks.{IsMarked-replicate}
@@ -40,15 +40,6 @@ pub edges_added : (functions : ℕ) (calls : List Call) (live : List Bool) (k : 
     → (edge : Edge) → Contains new edge ↔ (Contains old edge ⊎ IsEdgeOf functions calls live k edge)
 edges_added functions calls live k call old one two new last wanted at one_is last_is two_is wanted_is new_is edge = (forth, back)
   where
-    into : Edge
-    into = record { from = before_of functions calls k; to = call.callee }
-
-    exit : Edge
-    exit = record { from = 2 * functions + k; to = functions + call.caller }
-
-    behind : Edge
-    behind = record { from = functions + call.callee; to = 2 * functions + k }
-
     forth : Contains new edge → Contains old edge ⊎ IsEdgeOf functions calls live k edge
     forth has = ⊎_elim
         (λ in_two. ⊎_elim
@@ -72,8 +63,8 @@ edges_added functions calls live k call old one two new last wanted at one_is la
         (λ others. ⊎_elim
         (λ p. from_two (subst (λ l. Contains l edge) (sym two_is) (if_new last one (record { from = 2 * functions + k; to = functions + call.caller }) edge (last_is ∙ p.0) (p.1 ∙ ap (λ (d : Call). record { from = 2 * functions + k; to = functions + d.caller }) same))))
         (λ p. subst (λ l. Contains l edge) (sym new_is) (if_new wanted two (record { from = functions + call.callee; to = 2 * functions + k }) edge
-            (same_Some wanted true (sym wanted_is ∙ ap (λ (d : Call). slice_get live d.caller) (sym same) ∙ p.0))
-            (p.1 ∙ ap (λ (d : Call). record { from = functions + d.callee; to = 2 * functions + k }) same)))
+        (same_Some wanted true (sym wanted_is ∙ ap (λ (d : Call). slice_get live d.caller) (sym same) ∙ p.0))
+        (p.1 ∙ ap (λ (d : Call). record { from = functions + d.callee; to = 2 * functions + k }) same)))
         others)
         cases
 
@@ -93,13 +84,13 @@ calls_none functions calls live edges empty edge = (λ has. absurd (Contains-nil
 pub calls_more : (functions : ℕ) (calls : List Call) (live : List Bool) (n : ℕ) (old new : List Edge) → ((edge : Edge) → Contains old edge ↔ OfCalls functions calls live n edge) → ((edge : Edge) → Contains new edge ↔ (Contains old edge ⊎ IsEdgeOf functions calls live n edge)) → (edge : Edge) → Contains new edge ↔ OfCalls functions calls live (n + 1) edge
 calls_more functions calls live n old new known added edge = (
   λ has. ⊎_elim
-    (λ in_old. (let of = (known edge).0 in_old in let lt = of.1 in (of.0, omega arith, of.2)))
-    (λ own. (n, omega arith, own))
-    ((added edge).0 has),
+      (λ in_old. (let of = (known edge).0 in_old in let lt = of.1 in (of.0, omega arith, of.2)))
+      (λ own. (n, omega arith, own))
+      ((added edge).0 has),
   λ of. (added edge).1 (⊎_elim
-    (λ same. inr (subst (λ k. IsEdgeOf functions calls live k edge) same of.2))
-    (λ differ. inl ((known edge).1 (of.0, (let lt = of.1 in omega arith), of.2)))
-    (cases_eq of.0 n)),
+      (λ same. inr (subst (λ k. IsEdgeOf functions calls live k edge) same of.2))
+      (λ differ. inl ((known edge).1 (of.0, (let lt = of.1 in omega arith), of.2)))
+      (cases_eq of.0 n)),
 )
 
 -- edges of all calls, and of the first functions without calls
@@ -110,9 +101,9 @@ pub functions_none : (functions : ℕ) (calls : List Call) (live : List Bool) (n
 functions_none functions calls live n edges long known edge = (
   λ has. (let of = (known edge).0 has in inl (of.0, of.2)),
   λ of. ⊎_elim
-    (λ own. (known edge).1 (own.0, (let lt = slice_get_within calls own.0 own.1.0 own.1.1 in omega arith), own.1))
-    (λ none. absurd (let lt = none.1 in omega arith))
-    of,
+      (λ own. (known edge).1 (own.0, (let lt = slice_get_within calls own.0 own.1.0 own.1.1 in omega arith), own.1))
+      (λ none. absurd (let lt = none.1 in omega arith))
+      of,
 )
 
 pub functions_more : (functions : ℕ) (calls : List Call) (live has_calls : List Bool) (n : ℕ) (has : Bool) (old new : List Edge) → n < functions → ((f : ℕ) → IsMarked has_calls f ↔ HasCall calls f) → slice_get has_calls n ≡ Some has → ((edge : Edge) → Contains old edge ↔ OfFunctions functions calls live n edge) → new ≡ old ++ cond (not has) (record { from = n; to = functions + n } ∷ []) [] → (edge : Edge) → Contains new edge ↔ OfFunctions functions calls live (n + 1) edge
@@ -158,13 +149,13 @@ HasCallBelow calls n f = (k : ℕ) × (call : Call) × (k < n) × (slice_get cal
 pub marks_more : (marks : List Bool) (calls : List Call) (n : ℕ) (call : Call) → slice_get calls n ≡ Some call → call.caller < length marks → ((f : ℕ) → IsMarked marks f ↔ HasCallBelow calls n f) → (f : ℕ) → IsMarked (slice_set marks call.caller true) f ↔ HasCallBelow calls (n + 1) f
 marks_more marks calls n call at within known f = (
   λ marked. ⊎_elim
-    (λ same. (n, call, omega arith, at, sym same))
-    (λ differ. (let has = (known f).0 (sym (slice_get-set_other marks call.caller f true differ) ∙ marked) in (has.0, has.1, (let l = has.2 in omega arith), has.3, has.4)))
-    (cases_eq f call.caller),
+      (λ same. (n, call, omega arith, at, sym same))
+      (λ differ. (let has = (known f).0 (sym (slice_get-set_other marks call.caller f true differ) ∙ marked) in (has.0, has.1, (let l = has.2 in omega arith), has.3, has.4)))
+      (cases_eq f call.caller),
   λ has. ⊎_elim
-    (λ same. ap (slice_get (slice_set marks call.caller true)) same ∙ slice_get-set_same marks call.caller true within)
-    (λ differ. slice_get-set_other marks call.caller f true differ ∙ (known f).1 (has.0, has.1, earlier has differ, has.3, has.4))
-    (cases_eq f call.caller),
+      (λ same. ap (slice_get (slice_set marks call.caller true)) same ∙ slice_get-set_same marks call.caller true within)
+      (λ differ. slice_get-set_other marks call.caller f true differ ∙ (known f).1 (has.0, has.1, earlier has differ, has.3, has.4))
+      (cases_eq f call.caller),
 )
   where
     earlier : (has : HasCallBelow calls (n + 1) f) → f ≢ call.caller → has.0 < n

@@ -1,5 +1,5 @@
 -- The points that are marked are those that a path leads to.
-use Rattle.std.proofs.Common.{◌≡◌, ◌≢◌, ◌⊎◌, ℕ, zero, suc, ◌+◌, ◌*◌, ◌<◌, ◌≤◌, inl, inr, ⊎_elim, List, [], ◌∷◌, length, get_or, Option, Some, None, Bool, true, false, cond, ltb, refl, sym, ap, ◌∙◌, subst, arith, All, Contains, slice_get, ◌++◌, length-append}
+use Rattle.std.proofs.Common.{◌≡◌, ◌⊎◌, ℕ, zero, suc, ◌+◌, ◌*◌, ◌<◌, ◌≤◌, inl, inr, ⊎_elim, List, [], ◌∷◌, length, get_or, Some, None, Bool, true, refl, sym, ap, ◌∙◌, subst, arith, Contains, slice_get, ◌++◌, length-append}
 use Rattle.std.specs.Prelude.{◌↔◌}
 use Rattle.std.proofs.lemmas.Bool.{cases_eq, cases_lt}
 use Rattle.std.proofs.lemmas.List.{get_or_at, get_or_append_left}
@@ -65,10 +65,10 @@ claim_after program p k call at is path = record {
   entry = λ below. absurd (omega arith);
   exit = λ f below same. absurd (omega arith);
   after = λ j other there same.
-    (let e : k ≡ j = omega arith in
-    let c : call ≡ other = same_Some call other (sym at ∙ ap (slice_get (calls_of program)) e ∙ there) in
-    subst (λ i. Reached program (After other.caller (Call (place (calls_of program) i other.caller)))) e
-    (subst (λ (d : code.Call). Reached program (After d.caller (Call (place (calls_of program) k d.caller)))) c path));
+      (let e : k ≡ j = omega arith in
+      let c : call ≡ other = same_Some call other (sym at ∙ ap (slice_get (calls_of program)) e ∙ there) in
+      subst (λ i. Reached program (After other.caller (Call (place (calls_of program) i other.caller)))) e
+      (subst (λ (d : code.Call). Reached program (After d.caller (Call (place (calls_of program) k d.caller)))) c path));
 }
 
 module _ (program : Program) (sound : IsSound program) (k : ℕ) (call : code.Call) (at : slice_get (calls_of program) k ≡ Some call) where
@@ -83,22 +83,22 @@ module _ (program : Program) (sound : IsSound program) (k : ℕ) (call : code.Ca
   call_reached : (p : ℕ) → p ≡ before_of (count_of program) (calls_of program) k → IsClaimed program p → Reached program (At call.caller (place (calls_of program) k call.caller))
   call_reached p is claimed = ⊎_elim
       (λ body.
-        let j = body.number in
-        let earlier = body.earlier in
-        let reached : Reached program (After call.caller (Call (place (calls_of program) j call.caller))) =
-            subst (λ f. Reached program (After f (Call (place (calls_of program) j f)))) body.caller (claimed.after j earlier body.at (is ∙ body.point)) in
-        let placed : place (calls_of program) k call.caller ≡ suc (place (calls_of program) j call.caller) =
-            ap (λ n. place (calls_of program) n call.caller) body.next ∙ place_own (calls_of program) j earlier call.caller body.at body.caller in
-        let within : suc (place (calls_of program) j call.caller) < length (calls_view (calls_of program) call.caller) = (let w = place_within in omega arith) in
-        subst (λ i. Reached program (At call.caller i)) (sym placed)
-        (at_next (program_view program) program.entry call.caller (view_of (calls_of program) call.caller (caller_of program k call sound at)) is_in (place (calls_of program) j call.caller) within reached))
+      let j = body.number in
+      let earlier = body.earlier in
+      let reached : Reached program (After call.caller (Call (place (calls_of program) j call.caller))) =
+      subst (λ f. Reached program (After f (Call (place (calls_of program) j f)))) body.caller (claimed.after j earlier body.at (is ∙ body.point)) in
+      let placed : place (calls_of program) k call.caller ≡ suc (place (calls_of program) j call.caller) =
+      ap (λ n. place (calls_of program) n call.caller) body.next ∙ place_own (calls_of program) j earlier call.caller body.at body.caller in
+      let within : suc (place (calls_of program) j call.caller) < length (calls_view (calls_of program) call.caller) = (let w = place_within in omega arith) in
+      subst (λ i. Reached program (At call.caller i)) (sym placed)
+      (at_next (program_view program) program.entry call.caller (view_of (calls_of program) call.caller (caller_of program k call sound at)) is_in (place (calls_of program) j call.caller) within reached))
       (λ head.
-        let below : call.caller < count_of program = (linked_at program k call sound at).caller in
-        let same : p ≡ call.caller = is ∙ head.point in
-        let reached : Reached program (Entry call.caller) = subst (λ f. Reached program (Entry f)) same (claimed.entry (let s = same in omega arith)) in
-        let within : 0 < length (calls_view (calls_of program) call.caller) = (let w = place_within in omega arith) in
-        subst (λ i. Reached program (At call.caller i)) (sym head.placed)
-        (at_first (program_view program) program.entry call.caller (view_of (calls_of program) call.caller (caller_of program k call sound at)) is_in within reached))
+      let below : call.caller < count_of program = (linked_at program k call sound at).caller in
+      let same : p ≡ call.caller = is ∙ head.point in
+      let reached : Reached program (Entry call.caller) = subst (λ f. Reached program (Entry f)) same (claimed.entry (let s = same in omega arith)) in
+      let within : 0 < length (calls_view (calls_of program) call.caller) = (let w = place_within in omega arith) in
+      subst (λ i. Reached program (At call.caller i)) (sym head.placed)
+      (at_first (program_view program) program.entry call.caller (view_of (calls_of program) call.caller (caller_of program k call sound at)) is_in within reached))
       (before_cases (count_of program) (calls_of program) k call sound.ascending at)
 
 module _ (program : Program) (sound : IsSound program) (live : List Bool) (edges : List Edge) (are_live : AreLive program live) (are_edges : AreEdges program live edges) where
@@ -110,15 +110,15 @@ module _ (program : Program) (sound : IsSound program) (live : List Bool) (edges
   claim_step a b leads claimed = ⊎_elim
       (λ of. by_call of.0 of.1.0 of.1.1 of.1.2)
       (λ through.
-        let f = through.0 in
-        let from : a ≡ through.0 = ap (λ (e : Edge). e.from) through.1.2 in
-        let to : b ≡ count_of program + through.0 = ap (λ (e : Edge). e.to) through.1.2 in
-        let below : through.0 < count_of program = through.1.0 in
-        let there = slice_get-get_or program.functions.items f nothing below in
-        claim_exit program b f below to
-        (at_through (program_view program) program.entry f (view_of (calls_of program) f (get_or program.functions.items f nothing)) (function_view program f (get_or program.functions.items f nothing) there)
-        (none_view (calls_of program) f through.1.1)
-        (subst (λ g. Reached program (Entry g)) from (claimed.entry (omega arith)))))
+      let f = through.0 in
+      let from : a ≡ through.0 = ap (λ (e : Edge). e.from) through.1.2 in
+      let to : b ≡ count_of program + through.0 = ap (λ (e : Edge). e.to) through.1.2 in
+      let below : through.0 < count_of program = through.1.0 in
+      let there = slice_get-get_or program.functions.items f nothing below in
+      claim_exit program b f below to
+      (at_through (program_view program) program.entry f (view_of (calls_of program) f (get_or program.functions.items f nothing)) (function_view program f (get_or program.functions.items f nothing) there)
+      (none_view (calls_of program) f through.1.1)
+      (subst (λ g. Reached program (Entry g)) from (claimed.entry (omega arith)))))
       ((are_edges (record { from = a; to = b })).0 leads)
     where
       nothing : code_function.Function
@@ -130,19 +130,19 @@ module _ (program : Program) (sound : IsSound program) (live : List Bool) (edges
           ⊎ (IsMarked live call.caller × (◌≡◌ {A = Edge} (record { from = a; to = b }) (record { from = count_of program + call.callee; to = 2 * count_of program + k })))) → IsClaimed program b
       by_call k call at cases = ⊎_elim
           (λ e.
-            let reached = call_reached program sound k call at a (ap (λ (d : Edge). d.from) e) claimed in
-            let to : b ≡ call.callee = ap (λ (d : Edge). d.to) e in
-            subst (IsClaimed program) (sym to)
-            (claim_entry program call.callee (callee_below k call at) (More reached (Into (reached_live (program_view program) program.entry (At call.caller (place (calls_of program) k call.caller)) reached) (site_at program k call sound at)))))
+          let reached = call_reached program sound k call at a (ap (λ (d : Edge). d.from) e) claimed in
+          let to : b ≡ call.callee = ap (λ (d : Edge). d.to) e in
+          subst (IsClaimed program) (sym to)
+          (claim_entry program call.callee (callee_below k call at) (More reached (Into (reached_live (program_view program) program.entry (At call.caller (place (calls_of program) k call.caller)) reached) (site_at program k call sound at)))))
           (λ others. ⊎_elim
           (λ last.
-            let reached = claimed.after k call at (ap (λ (d : Edge). d.from) last.1) in
-            claim_exit program b call.caller (linked_at program k call sound at).caller (ap (λ (d : Edge). d.to) last.1)
-            (at_exit (program_view program) program.entry call.caller (view_of (calls_of program) call.caller (caller_of program k call sound at)) (is_in program sound k call at) (place (calls_of program) k call.caller)
-            (last_ends (calls_of program) k call sound.ascending at last.0) reached))
+          let reached = claimed.after k call at (ap (λ (d : Edge). d.from) last.1) in
+          claim_exit program b call.caller (linked_at program k call sound at).caller (ap (λ (d : Edge). d.to) last.1)
+          (at_exit (program_view program) program.entry call.caller (view_of (calls_of program) call.caller (caller_of program k call sound at)) (is_in program sound k call at) (place (calls_of program) k call.caller)
+          (last_ends (calls_of program) k call sound.ascending at last.0) reached))
           (λ back.
-            let reached = claimed.exit call.callee (callee_below k call at) (ap (λ (d : Edge). d.from) back.1) in
-            claim_after program b k call at (ap (λ (d : Edge). d.to) back.1) (More reached (Back ((are_live call.caller).0 back.0) (site_at program k call sound at))))
+          let reached = claimed.exit call.callee (callee_below k call at) (ap (λ (d : Edge). d.from) back.1) in
+          claim_after program b k call at (ap (λ (d : Edge). d.to) back.1) (More reached (Back ((are_live call.caller).0 back.0) (site_at program k call sound at))))
           others)
           cases
 
@@ -200,15 +200,15 @@ module _ (program : Program) (sound : IsSound program) (live : List Bool) (edges
     where
       lacks : length (calls_view (calls_of program) f) ≤ 0 → HasCall (calls_of program) f → ⊥
       lacks empty has = (let stands = nested_at (calls_of program) has.0 has.1 f has.2 has.3 in
-        let within = slice_get_within (calls_view (calls_of program) f) (place (calls_of program) has.0 f) (name_view has.1.name) stands in omega arith)
+          let within = slice_get_within (calls_view (calls_of program) f) (place (calls_of program) has.0 f) (name_view has.1.name) stands in omega arith)
 
   -- before the first call
   first_call : (f : ℕ) → Marked f → BeforeCall f 0
   first_call f path k call at caller placed = ⊎_elim
       (λ body. absurd (
-        let own = place_own (calls_of program) body.number body.earlier f body.at (body.caller ∙ caller) in
-        let e : place (calls_of program) k f ≡ place (calls_of program) (suc body.number) f = ap (λ n. place (calls_of program) n f) body.next in
-        omega arith))
+      let own = place_own (calls_of program) body.number body.earlier f body.at (body.caller ∙ caller) in
+      let e : place (calls_of program) k f ≡ place (calls_of program) (suc body.number) f = ap (λ n. place (calls_of program) n f) body.next in
+      omega arith))
       (λ head. subst Marked (sym (head.point ∙ caller)) path)
       (before_cases (count_of program) (calls_of program) k call sound.ascending at)
 
@@ -216,13 +216,13 @@ module _ (program : Program) (sound : IsSound program) (live : List Bool) (edges
   next_call : (f i : ℕ) → BehindCall f i → BeforeCall f (suc i)
   next_call f i behind k call at caller placed = ⊎_elim
       (λ body.
-        let own = place_own (calls_of program) body.number body.earlier f body.at (body.caller ∙ caller) in
-        let e : place (calls_of program) k f ≡ place (calls_of program) (suc body.number) f = ap (λ n. place (calls_of program) n f) body.next in
-        let there : place (calls_of program) body.number f ≡ i = omega arith in
-        subst Marked (sym body.point) (behind body.number body.earlier body.at (body.caller ∙ caller) there))
+      let own = place_own (calls_of program) body.number body.earlier f body.at (body.caller ∙ caller) in
+      let e : place (calls_of program) k f ≡ place (calls_of program) (suc body.number) f = ap (λ n. place (calls_of program) n f) body.next in
+      let there : place (calls_of program) body.number f ≡ i = omega arith in
+      subst Marked (sym body.point) (behind body.number body.earlier body.at (body.caller ∙ caller) there))
       (λ head. absurd (
-        let none : place (calls_of program) k f ≡ 0 = subst (λ g. place (calls_of program) k g ≡ 0) caller head.placed in
-        omega arith))
+      let none : place (calls_of program) k f ≡ 0 = subst (λ g. place (calls_of program) k g ≡ 0) caller head.placed in
+      omega arith))
       (before_cases (count_of program) (calls_of program) k call sound.ascending at)
 
   -- behind the last call
@@ -234,7 +234,7 @@ module _ (program : Program) (sound : IsSound program) (live : List Bool) (edges
       let none : tree.Name = record { text = []; spot = record { line = 0; column = 0 } } in
       let found = flat_at (calls_of program) f i (get_or (calls_view (calls_of program) f) i none) (slice_get-get_or (calls_view (calls_of program) f) i none inside) in
       let limit : length (calls_view (calls_of program) found.call.caller) ≤ suc (place (calls_of program) found.number found.call.caller) =
-          subst (λ g. length (calls_view (calls_of program) g) ≤ suc (place (calls_of program) found.number g)) (sym found.caller) (let p = found.placed in omega arith) in
+      subst (λ g. length (calls_view (calls_of program) g) ≤ suc (place (calls_of program) found.number g)) (sym found.caller) (let p = found.placed in omega arith) in
       let last = ends_last (calls_of program) found.number found.call found.at limit in
       on_edge (2 * count_of program + found.number) (count_of program + f) (behind found.number found.call found.at found.caller found.placed)
       (inl (found.number, (found.call, found.at, inr (inl (last, ap (λ g. record { from = 2 * count_of program + found.number; to = count_of program + g }) (sym found.caller))))))
@@ -312,10 +312,10 @@ module _ (program : Program) (sound : IsSound program) (live : List Bool) (edges
   edges_within n d lt = ⊎_elim
       (λ of. of_call (get_or edges n d) of.0 of.1.0 of.1.1 of.1.2)
       (λ through.
-        let from : (get_or edges n d).from ≡ through.0 = ap (λ (e : Edge). e.from) through.1.2 in
-        let to : (get_or edges n d).to ≡ count_of program + through.0 = ap (λ (e : Edge). e.to) through.1.2 in
-        let below : through.0 < count_of program = through.1.0 in
-        (omega arith, omega arith))
+      let from : (get_or edges n d).from ≡ through.0 = ap (λ (e : Edge). e.from) through.1.2 in
+      let to : (get_or edges n d).to ≡ count_of program + through.0 = ap (λ (e : Edge). e.to) through.1.2 in
+      let below : through.0 < count_of program = through.1.0 in
+      (omega arith, omega arith))
       ((are_edges (get_or edges n d)).0 (Contains-get_or edges n d lt))
     where
       point_within : (k : ℕ) (call : code.Call) → slice_get (calls_of program) k ≡ Some call → before_of (count_of program) (calls_of program) k < 2 * count_of program + length (calls_of program)

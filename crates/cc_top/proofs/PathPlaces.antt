@@ -1,9 +1,9 @@
 -- The places of calls in their bodies.
-use Rattle.std.proofs.Common.{◌≡◌, ◌≢◌, ◌⊎◌, ℕ, zero, suc, ◌+◌, ◌-◌, ◌*◌, ◌<◌, ◌≤◌, inl, inr, ⊎_elim, List, [], ◌∷◌, length, map, filter, get_or, Option, Some, None, Bool, true, false, not, cond, eqb, refl, sym, ap, ◌∙◌, subst, arith, AllPairs, slice_get}
-use Rattle.std.proofs.lemmas.Bool.{cases_eq, cases_order, eq-eqb, ne_eqb, eqb-true, eqb-false, cases_Bool, not-true, not_from_false, true≢false}
-use Rattle.std.proofs.lemmas.Option.{slice_get_within, slice_get-get_or, get_or_from_slice_get, slice_get_past, same_Some}
+use Rattle.std.proofs.Common.{◌≡◌, ◌≢◌, ◌⊎◌, ℕ, zero, suc, ◌+◌, ◌-◌, ◌*◌, ◌<◌, ◌≤◌, inl, inr, ⊎_elim, List, [], ◌∷◌, length, map, filter, get_or, Option, Some, None, Bool, true, false, not, cond, eqb, refl, sym, ap, ◌∙◌, arith, AllPairs, slice_get}
+use Rattle.std.proofs.lemmas.Bool.{cases_eq, eq-eqb, ne_eqb, eqb-true, eqb-false, not-true, not_from_false}
+use Rattle.std.proofs.lemmas.Option.{slice_get_within, slice_get-get_or, get_or_from_slice_get, same_Some}
 use Rattle.cc_tree.specs.Program as tree
-use Rattle.cc_top.specs.Numbers.{place, previous, point_before, before_of, ends_body, is_last_call, HasCall}
+use Rattle.cc_top.specs.Numbers.{place, point_before, before_of, ends_body, is_last_call, HasCall}
 use Rattle.cc_top.specs.Views.{name_view, calls_view}
 use Rattle.cc_top.specs.declared.program.Call.{Call}
 
@@ -121,7 +121,7 @@ before_cases functions calls (suc j) call ascends at = by (get_or calls j call) 
     by : (earlier : Call) → slice_get calls j ≡ Some earlier → IsInBody functions calls (suc j) call ⊎ IsAtHead functions calls (suc j) call
     by earlier before =
         let open_point : before_of functions calls (suc j) ≡ cond (eqb earlier.caller call.caller) (2 * functions + (suc j - 1)) call.caller =
-            ap (λ c. point_before functions (suc j) c (slice_get calls j)) at ∙ ap (λ c. point_before functions (suc j) (Some call) c) before in
+        ap (λ c. point_before functions (suc j) c (slice_get calls j)) at ∙ ap (λ c. point_before functions (suc j) (Some call) c) before in
         ⊎_elim
         (λ same. inl (record {
           number = j;
@@ -144,7 +144,7 @@ before_cases functions calls (suc j) call ascends at = by (get_or calls j call) 
         only i c low there is e e_at = ⊎_elim
             (λ same. (let q : c ≡ e = same_Some c e (sym there ∙ ap (slice_get calls) same ∙ e_at) in sym (ap (λ (d : Call). d.caller) q) ∙ is))
             (λ differ. (let lower : c.caller ≤ e.caller = ascends_at calls i j c e ascends (omega arith) there e_at in
-                let upper : e.caller ≤ call.caller = ascends_at calls j (suc j) e call ascends (omega arith) e_at at in omega arith))
+            let upper : e.caller ≤ call.caller = ascends_at calls j (suc j) e call ascends (omega arith) e_at at in omega arith))
             (cases_eq i j)
 
 -- no call behind the last one of a body is of the same body
@@ -177,10 +177,10 @@ ends_last calls k call at ends = by (slice_get calls (k + 1)) refl
     by None e = ap (λ o. ends_body (slice_get calls k) o) e ∙ ap (λ o. ends_body o None) at
     by (Some next) e = ap (λ o. ends_body (slice_get calls k) o) e ∙ ap (λ o. ends_body o (Some next)) at ∙ ⊎_elim
         (λ same. absurd (
-            let stands = nested_at calls (k + 1) next call.caller e same in
-            let q : k + 1 ≡ suc k = omega arith in
-            let there : place calls (k + 1) call.caller ≡ suc (place calls k call.caller) = ap (λ n. place calls n call.caller) q ∙ place_own calls k call call.caller at refl in
-            omega (arith, slice_get_within (calls_view calls call.caller) (place calls (k + 1) call.caller) (name_view next.name) stands)))
+        let stands = nested_at calls (k + 1) next call.caller e same in
+        let q : k + 1 ≡ suc k = omega arith in
+        let there : place calls (k + 1) call.caller ≡ suc (place calls k call.caller) = ap (λ n. place calls n call.caller) q ∙ place_own calls k call call.caller at refl in
+        omega (arith, slice_get_within (calls_view calls call.caller) (place calls (k + 1) call.caller) (name_view next.name) stands)))
         (λ other. not_from_false (eqb next.caller call.caller) (ne_eqb next.caller call.caller other))
         (cases_eq next.caller call.caller)
 

@@ -1,9 +1,9 @@
 -- Paths through a function.
-use Rattle.std.proofs.Common.{◌≡◌, ℕ, zero, suc, ◌<◌, ◌≤◌, List, length, Option, Some, None, Bool, true, false, ltb, cond, refl, sym, ap, ◌∙◌, subst, arith}
+use Rattle.std.proofs.Common.{◌≡◌, ℕ, suc, ◌<◌, ◌≤◌, length, Some, None, cond, refl, ap, arith}
 use Rattle.std.proofs.lemmas.Bool.{lt-ltb, le-ltb}
 use Rattle.cc_base.specs.Paths.{Reaches, More}
 use Rattle.cc_base.specs.Paths as paths
-use Rattle.cc_tree.specs.Program.{Function, Program, IsFunction, IsSite}
+use Rattle.cc_tree.specs.Program.{Function, Program, IsFunction}
 use Rattle.cc_tree.specs.Points.{Node, Block, Statement, Call, Designator, part, Point, Root, Entry, Exit, Before, At, After, behind_parts, Steps, Begin, Leaf, First, Next, Last, Finish, Across, Inside, Start, End, Into, Back, IsLive, IsReachable}
 
 pub block_part : (function : Function) (k : ℕ) → k < length function.calls → part function Block k ≡ Some (Statement k)

@@ -1,8 +1,10 @@
 -- The rows of the calls that are chosen.
-use Rattle.std.proofs.Common.{◌≡◌, ◌≢◌, ◌⊎◌, ℕ, zero, suc, ◌+◌, ◌-◌, ◌<◌, ◌≤◌, inl, inr, ⊎_elim, List, [], ◌∷◌, ◌++◌, length, Some, Bool, true, false, cond, eqb, refl, sym, ap, ◌∙◌, subst, arith, All, Contains, slice_get}
-use Rattle.std.proofs.lemmas.Bool.{cases_eq}
+use Rattle.std.proofs.Common.{◌≡◌, ◌≢◌, ℕ, zero, suc, ◌+◌, ◌-◌, ◌<◌, ◌≤◌, inl, inr, ⊎_elim, List, [], ◌∷◌, ◌++◌, length, Some, Bool, true, false, cond, eqb, refl, sym, ap, ◌∙◌, subst, arith, Contains, slice_get, get_or, not}
+use Rattle.std.specs.Prelude.{◌↔◌}
+use Rattle.std.proofs.lemmas.Bool.{cases_eq, eqb-true, eqb-false, not-true, not-false}
 use Rattle.std.proofs.lemmas.List.Elements.{All-nil, All-push, Contains-push, Contains-push_cases, Contains-append_left}
-use Rattle.std.proofs.lemmas.Option.{slice_get_within, same_Some}
+use Rattle.std.proofs.lemmas.Option.{slice_get_read, slice_get_within, same_Some}
+use Rattle.cc_base.specs.Edges.{IsMarked}
 use Rattle.cc_base.proofs.Lists.{Contains-nil}
 use Rattle.cc_tree.specs.Program as tree
 use Rattle.cc_tree.specs.Program.{IsSite}
@@ -14,8 +16,8 @@ use Rattle.cc_top.specs.Views.{name_view, program_view, IsCallOf, AreCallsOf}
 use Rattle.cc_top.specs.declared.program.Call.{Call}
 use Rattle.cc_top.specs.declared.program.Function.{Function}
 use Rattle.cc_top.specs.declared.program.Program.{Program}
-use Rattle.cc_top.proofs.PathPlaces.{ascends_at, nested_at, place_own, place_same}
-use Rattle.cc_top.proofs.PathSites.{view_of, function_view, site_at, flat_of}
+use Rattle.cc_top.proofs.PathPlaces.{ascends_at, nested_at, place_own}
+use Rattle.cc_top.proofs.PathSites.{view_of, function_view, linked_at, site_at, flat_of}
 use Rattle.cc_top.proofs.ProgramNames.{Contains-here, Contains-there}
 
 -- the row of call k
@@ -41,12 +43,15 @@ place_grows calls m (suc d) f =
 -- an earlier call's row stands before a later call's
 rows_before : (program : Program) (j k : ℕ) (a b : Call) → IsSound program → j < k → slice_get program.calls.items j ≡ Some a → slice_get program.calls.items k ≡ Some b → IsBefore (row_of program.calls.items j a) (row_of program.calls.items k b)
 rows_before program j k a b sound lt at_j at_k = ⊎_elim
-    (λ same. inr (same, (
-      let own = place_own program.calls.items j a b.caller at_j same in
-      let e : suc j + (k - suc j) ≡ k = omega arith in
-      let grows : place program.calls.items (suc j) b.caller ≤ place program.calls.items k b.caller = subst (λ n. place program.calls.items (suc j) b.caller ≤ place program.calls.items n b.caller) e (place_grows program.calls.items (suc j) (k - suc j) b.caller) in
-      let here : place program.calls.items j a.caller ≡ place program.calls.items j b.caller = ap (place program.calls.items j) same in
-      omega arith)))
+    (λ same. inr (
+      same,
+      (
+          let own = place_own program.calls.items j a b.caller at_j same in
+          let e : suc j + (k - suc j) ≡ k = omega arith in
+          let grows : place program.calls.items (suc j) b.caller ≤ place program.calls.items k b.caller = subst (λ n. place program.calls.items (suc j) b.caller ≤ place program.calls.items n b.caller) e (place_grows program.calls.items (suc j) (k - suc j) b.caller) in
+          let here : place program.calls.items j a.caller ≡ place program.calls.items j b.caller = ap (place program.calls.items j) same in
+          omega arith),
+    ))
     (λ differ. inl (let le = ascends_at program.calls.items j k a b sound.ascending lt at_j at_k in omega arith))
     (cases_eq a.caller b.caller)
 
@@ -87,9 +92,6 @@ module _ (program : Program) (k : ℕ) (call : Call) (sound : IsSound program) (
     pub coupling_apart : IsCoupling (program_view program) program.entry (row_of program.calls.items k call) → caller.file.0 ≢ callee.file.0
     coupling_apart coupling same = coupling.apart (caller_file coupling.site ∙ same ∙ sym (callee_file coupling.site))
 
-    call_of : IsCallOf (program_view program) (row_of program.calls.items k call) call
-    call_of = (site_at program k call sound at, refl, refl, site_call (site_at program k call sound at) caller is_caller)
-
 -- the calls that are chosen of the first n
 pub record IsChosen (program : Program) (n : ℕ) (chosen : List Call) : Type 0 where
   rows : List Row
@@ -118,7 +120,7 @@ chosen_skip program n call chosen at none known = record {
   from = λ row has. (let k = known.from row has in (k.0, k.1, (let lt = k.2 in omega arith), k.3, k.4));
   complete = λ k c lt there coupling. ⊎_elim
       (λ same. absurd (none (subst (λ (d : Call). IsCoupling (program_view program) program.entry (row_of program.calls.items n d)) (same_Some c call (sym there ∙ ap (slice_get program.calls.items) same ∙ at))
-        (subst (λ j. IsCoupling (program_view program) program.entry (row_of program.calls.items j c)) same coupling))))
+      (subst (λ j. IsCoupling (program_view program) program.entry (row_of program.calls.items j c)) same coupling))))
       (λ differ. known.complete k c (omega arith) there coupling)
       (cases_eq k n);
   ordered = known.ordered;
@@ -137,9 +139,9 @@ chosen_more program n call chosen caller is_sound at is_caller coupling known = 
       (Contains-push_cases known.rows (row_of program.calls.items n call) row has);
   complete = λ k c lt there is. ⊎_elim
       (λ same.
-        let d : c ≡ call = same_Some c call (sym there ∙ ap (slice_get program.calls.items) same ∙ at) in
-        let row : row_of program.calls.items n call ≡ row_of program.calls.items k c = ap (λ (e : Call). row_of program.calls.items n e) (sym d) ∙ ap (λ j. row_of program.calls.items j c) (sym same) in
-        subst (Contains (known.rows ++ row_of program.calls.items n call ∷ [])) row (Contains-push known.rows (row_of program.calls.items n call)))
+      let d : c ≡ call = same_Some c call (sym there ∙ ap (slice_get program.calls.items) same ∙ at) in
+      let row : row_of program.calls.items n call ≡ row_of program.calls.items k c = ap (λ (e : Call). row_of program.calls.items n e) (sym d) ∙ ap (λ j. row_of program.calls.items j c) (sym same) in
+      subst (Contains (known.rows ++ row_of program.calls.items n call ∷ [])) row (Contains-push known.rows (row_of program.calls.items n call)))
       (λ differ. Contains-append_left known.rows (row_of program.calls.items n call ∷ []) (row_of program.calls.items k c) (known.complete k c (omega arith) there is))
       (cases_eq k n);
   ordered = ordered_push known.rows (row_of program.calls.items n call) known.ordered
@@ -153,10 +155,10 @@ chosen_all program n chosen is_sound long known = (
   record {
     sound = known.sound;
     complete = λ row coupling. (
-      let flat = flat_of program row.f row.i row.g is_sound coupling.site in
-      let same : row_of program.calls.items flat.number flat.call ≡ row = row_same row flat.number flat.call flat.caller flat.placed flat.callee in
-      subst (Contains known.rows) same
-      (known.complete flat.number flat.call (let lt = slice_get_within program.calls.items flat.number flat.call flat.at in omega arith) flat.at (subst (IsCoupling (program_view program) program.entry) (sym same) coupling)));
+        let flat = flat_of program row.f row.i row.g is_sound coupling.site in
+        let same : row_of program.calls.items flat.number flat.call ≡ row = row_same row flat.number flat.call flat.caller flat.placed flat.callee in
+        subst (Contains known.rows) same
+        (known.complete flat.number flat.call (let lt = slice_get_within program.calls.items flat.number flat.call flat.at in omega arith) flat.at (subst (IsCoupling (program_view program) program.entry) (sym same) coupling)));
     ordered = known.ordered;
   },
   known.are,
@@ -167,3 +169,39 @@ chosen_all program n chosen is_sound long known = (
         ap (λ h. record { f = h; i = place program.calls.items k h; g = call.callee }) f
         ∙ ap (λ j. record { f = row.f; i = j; g = call.callee }) i
         ∙ ap (λ h. record { f = row.f; i = row.i; g = h }) g
+
+-- what the code read of a call, its functions, and whether it is reached
+pub record IsRead (program : Program) (n : ℕ) (call : Call) (caller callee : Function) (reached : List Bool) (mark : Bool) : Type 0 where
+  pub at : slice_get program.calls.items n ≡ Some call
+  pub is_caller : slice_get program.functions.items call.caller ≡ Some caller
+  pub is_callee : slice_get program.functions.items call.callee ≡ Some callee
+  pub marked : slice_get reached n ≡ Some mark
+  pub exact : IsMarked reached n ↔ IsReachable (program_view program) program.entry (At call.caller (place program.calls.items n call.caller))
+
+pub is_read : (program : Program) (n : ℕ) (call : Call) (caller callee : Function) (reached : List Bool) (mark : Bool) → IsSound program → n < length program.calls.items → length reached ≡ length program.calls.items
+    → ((k : ℕ) (c : Call) → slice_get program.calls.items k ≡ Some c → IsMarked reached k ↔ IsReachable (program_view program) program.entry (At c.caller (place program.calls.items k c.caller)))
+    → call ≡ get_or program.calls.items n call → caller ≡ get_or program.functions.items call.caller caller → callee ≡ get_or program.functions.items call.callee callee → mark ≡ get_or reached n mark → IsRead program n call caller callee reached mark
+is_read program n call caller callee reached mark sound lt long exact is caller_is callee_is mark_is =
+    let at = slice_get_read program.calls.items (length program.calls.items) n call refl lt is in
+    let linked = linked_at program n call sound at in
+    record {
+      at = at;
+      is_caller = slice_get_read program.functions.items (length program.functions.items) call.caller caller refl linked.caller caller_is;
+      is_callee = slice_get_read program.functions.items (length program.functions.items) call.callee callee refl (slice_get_within program.functions.items call.callee linked.callee linked.is_callee) callee_is;
+      marked = slice_get_read reached (length reached) n mark refl (omega arith) mark_is;
+      exact = exact n call at;
+    }
+
+pub read_taken : (program : Program) (n : ℕ) (call : Call) (caller callee : Function) (reached : List Bool) (mark differ : Bool) (chosen : List Call) → IsSound program → IsRead program n call caller callee reached mark → mark ≡ true → differ ≡ not (eqb caller.file.0 callee.file.0) → differ ≡ true → IsChosen program n chosen → IsChosen program (n + 1) (chosen ++ call ∷ [])
+read_taken program n call caller callee reached mark differ chosen sound read is differ_is differs known =
+    chosen_more program n call chosen caller sound read.at read.is_caller
+    (coupling_at program n call sound read.at caller callee read.is_caller read.is_callee (eqb-false caller.file.0 callee.file.0 (not-true (eqb caller.file.0 callee.file.0) (sym differ_is ∙ differs))) (read.exact.0 (read.marked ∙ ap Some is)))
+    known
+
+pub read_same : (program : Program) (n : ℕ) (call : Call) (caller callee : Function) (reached : List Bool) (mark differ : Bool) (chosen : List Call) → IsSound program → IsRead program n call caller callee reached mark → differ ≡ not (eqb caller.file.0 callee.file.0) → differ ≡ false → IsChosen program n chosen → IsChosen program (n + 1) chosen
+read_same program n call caller callee reached mark differ chosen sound read differ_is same known =
+    chosen_skip program n call chosen read.at (λ coupling. coupling_apart program n call sound read.at caller callee read.is_caller read.is_callee coupling (eqb-true caller.file.0 callee.file.0 (not-false (eqb caller.file.0 callee.file.0) (sym differ_is ∙ same)))) known
+
+pub read_unreached : (program : Program) (n : ℕ) (call : Call) (caller callee : Function) (reached : List Bool) (mark : Bool) (chosen : List Call) → IsRead program n call caller callee reached mark → mark ≡ false → IsChosen program n chosen → IsChosen program (n + 1) chosen
+read_unreached program n call caller callee reached mark chosen read is known =
+    chosen_skip program n call chosen read.at (λ coupling. (let e : Some true ≡ Some false = sym (read.exact.1 coupling.reachable) ∙ read.marked ∙ ap Some is in cc)) known

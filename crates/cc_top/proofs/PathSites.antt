@@ -1,5 +1,5 @@
 -- The calls of the code, and those of the program that it stands for.
-use Rattle.std.proofs.Common.{◌≡◌, ◌≢◌, ℕ, zero, suc, ◌+◌, ◌<◌, List, [], ◌∷◌, length, map, get_or, Some, refl, sym, ap, ◌∙◌, subst, arith, All, AllPairs, Contains, slice_get}
+use Rattle.std.proofs.Common.{◌≡◌, ℕ, zero, suc, ◌+◌, ◌<◌, List, [], ◌∷◌, length, map, get_or, Some, refl, sym, ap, ◌∙◌, subst, arith, All, Contains, slice_get}
 use Rattle.std.specs.Prelude.{◌↔◌}
 use Rattle.std.specs.Option.{option_map}
 use Rattle.std.proofs.lemmas.List.{length-map}
@@ -67,6 +67,17 @@ function_seen program f seen at = by (get_or program.functions.items f none) (sl
 pub linked_at : (program : Program) (k : ℕ) (call : Call) → IsSound program → slice_get program.calls.items k ≡ Some call → IsLinkedCall program.functions.items call
 linked_at program k call sound at = All-contains (IsLinkedCall program.functions.items) program.calls.items call sound.calls (Contains-slice_get program.calls.items k call at)
 
+-- calls stand in functions and lead to functions
+pub callers_below : (program : Program) (count : ℕ) (calls : List Call) → IsSound program → count ≡ length program.functions.items → calls ≡ program.calls.items → All (λ (call : Call). call.caller < count) calls
+callers_below program count calls sound is same =
+    subst (λ (cs : List Call). All (λ (call : Call). call.caller < count) cs) (sym same)
+    (All-weaker (IsLinkedCall program.functions.items) (λ (call : Call). call.caller < count) (λ call linked. (let lt = linked.caller in omega arith)) program.calls.items sound.calls)
+
+pub callees_below : (program : Program) (count : ℕ) (calls : List Call) → IsSound program → count ≡ length program.functions.items → calls ≡ program.calls.items → All (λ (call : Call). call.callee < count) calls
+callees_below program count calls sound is same =
+    subst (λ (cs : List Call). All (λ (call : Call). call.callee < count) cs) (sym same)
+    (All-weaker (IsLinkedCall program.functions.items) (λ (call : Call). call.callee < count) (λ call linked. (let lt = slice_get_within program.functions.items call.callee linked.callee linked.is_callee in omega arith)) program.calls.items sound.calls)
+
 -- call number k is a call of the program
 module _ (program : Program) (k : ℕ) (call : Call) (sound : IsSound program) (at : slice_get program.calls.items k ≡ Some call) where
   pub caller_of : Function
@@ -106,10 +117,10 @@ callee_of program f i g call k sound site at caller_is placed =
     let callee = function_seen program g site.callee site.is_callee in
     let linked = linked_at program k call sound at in
     let named : name_view call.name ≡ site.call = same_Some (name_view call.name) site.call
-        (sym (subst (λ (j : ℕ). slice_get (calls_view program.calls.items f) j ≡ Some (name_view call.name)) placed (nested_at program.calls.items k call f at caller_is))
-        ∙ subst (λ (seen : tree.Function). slice_get seen.calls i ≡ Some site.call) caller.same site.is_call) in
+    (sym (subst (λ (j : ℕ). slice_get (calls_view program.calls.items f) j ≡ Some (name_view call.name)) placed (nested_at program.calls.items k call f at caller_is))
+    ∙ subst (λ (seen : tree.Function). slice_get seen.calls i ≡ Some site.call) caller.same site.is_call) in
     let text : linked.callee.head.text.now ≡ callee.function.head.text.now =
-        linked.named ∙ ap (λ (n : tree.Name). n.text) named ∙ sym site.named ∙ ap (λ (s : tree.Function). s.head.text) callee.same in
+    linked.named ∙ ap (λ (n : tree.Name). n.text) named ∙ sym site.named ∙ ap (λ (s : tree.Function). s.head.text) callee.same in
     same_place (texts_of program.functions.items) call.callee g callee.function.head.text.now sound.once
     (text_at program.functions.items call.callee linked.callee linked.is_callee ∙ ap Some text)
     (text_at program.functions.items g callee.function callee.at)
@@ -137,9 +148,6 @@ edges_below program sound =
 pub leads_calls : (program : Program) → IsSound program → (a b : ℕ) → Leads (map call_edge program.calls.items) a b ↔ MayCall (program_view program) a b
 leads_calls program sound a b = (forth, back)
   where
-    calls : List Call
-    calls = program.calls.items
-
     forth : Leads (map call_edge program.calls.items) a b → MayCall (program_view program) a b
     forth leads =
         let edge : Edge = record { from = a; to = b } in

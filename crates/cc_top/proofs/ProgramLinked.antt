@@ -1,5 +1,5 @@
 -- What holds of the program that is made.
-use Rattle.std.proofs.Common.{◌≡◌, ◌≢◌, ℕ, zero, suc, ◌+◌, ◌<◌, ◌≤◌, inl, inr, ⊎_elim, List, [], ◌∷◌, ◌++◌, length, map, filter, get_or, Some, None, Bool, true, false, cond, eqb, refl, sym, ap, ◌∙◌, subst, arith, All, AllPairs, Contains, slice_get, position, length-append, append_assoc, append-nil, Bor}
+use Rattle.std.proofs.Common.{◌≡◌, ◌≢◌, ℕ, zero, suc, ◌+◌, ◌<◌, ◌≤◌, ⊎_elim, List, [], ◌∷◌, ◌++◌, length, map, filter, get_or, Some, Bool, cond, eqb, refl, sym, ap, ◌∙◌, subst, arith, All, AllPairs, Contains, slice_get, position, length-append, append_assoc, append-nil, Bor}
 use Rattle.std.specs.List.{AllZip}
 use Rattle.std.specs.Str.{bytes_eq}
 use Rattle.std.proofs.lemmas.Bool.{cases_order, eq-eqb, ne_eqb}
@@ -10,7 +10,7 @@ use Rattle.cc_tree.specs.Program as tree
 use Rattle.cc_top.specs.Answer.{IsLinked}
 use Rattle.cc_top.specs.Linked.{IsLinkedCall, IsSound}
 use Rattle.cc_top.specs.Linking.{AreCalls, AreNumbered, IsCallFrom, bare, bare_view, names_of, texts_of}
-use Rattle.cc_top.specs.Listing.{heads_of, IsWhole, IsEntry}
+use Rattle.cc_top.specs.Listing.{heads_of, IsWhole}
 use Rattle.cc_top.specs.Views.{name_view, calls_view, functions_view, program_view}
 use Rattle.cc_top.specs.declared.program.Call.{Call}
 use Rattle.cc_top.specs.declared.program.Function.{Function}

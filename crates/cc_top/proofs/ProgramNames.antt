@@ -1,11 +1,10 @@
 -- The numbers of names.
-use Rattle.std.proofs.Common.{◌≡◌, ◌≢◌, ℕ, zero, suc, ◌<◌, inl, inr, ⊎_elim, List, [], ◌∷◌, ◌++◌, length, map, get_or, Some, None, Bool, true, false, not, cond, take, ◌+◌, refl, sym, ap, ◌∙◌, subst, arith, Bor, All, AllPairs, Contains, slice_get, position, length-append, ◌⊎◌}
+use Rattle.std.proofs.Common.{◌≡◌, ◌≢◌, ℕ, zero, suc, ◌<◌, inl, inr, ⊎_elim, List, [], ◌∷◌, ◌++◌, length, map, get_or, Some, Bool, true, false, not, cond, take, ◌+◌, refl, sym, ap, ◌∙◌, subst, arith, Bor, All, AllPairs, Contains, slice_get, position, length-append, ◌⊎◌}
 use Rattle.std.specs.List.{AllZip, list_any}
-use Rattle.std.specs.Option.{option_map}
 use Rattle.std.specs.Str.{bytes_eq}
 use Rattle.std.proofs.lemmas.Bool.{true≢false, or_cases, or_left, or_right, not-true}
 use Rattle.std.proofs.lemmas.List.{length-map, map_push, map_more, get_or_append_left, get_or_at, get_or-map}
-use Rattle.std.proofs.lemmas.List.Elements.{Contains-get_or, Contains-append_right, Contains-push}
+use Rattle.std.proofs.lemmas.List.Elements.{Contains-get_or, Contains-append_right}
 use Rattle.std.proofs.lemmas.List.Quantifiers.{all_pairs_push, position-Some}
 use Rattle.std.proofs.lemmas.Option.{slice_get-get_or, get_or_from_slice_get, slice_get_within}
 use Rattle.std.proofs.lemmas.Slice.Eq.{bytes_eq-Decides}
@@ -78,12 +77,6 @@ numbered_more functions keys function new numbered = record {
 
     apart : (k : ℕ) (d : List ℕ) → k < length (texts_of functions) → get_or (texts_of functions) k d ≢ function.head.text.now
     apart k d lt e = new (subst (λ names. Contains names function.head.text.now) (sym numbered.same) (subst (Contains (texts_of functions)) e (Contains-get_or (texts_of functions) k d lt)))
-
-pub numbered_none : (functions : List Function) (keys : List (Bor (List ℕ))) → functions ≡ [] → keys ≡ [] → AreNumbered functions keys
-numbered_none functions keys no_functions no_keys = record {
-  same = ap names_of no_keys ∙ ap texts_of (sym no_functions);
-  once = subst (λ (fs : List Function). AllPairs (λ a b. a ≢ b) (texts_of fs)) (sym no_functions) (λ i j d lt within. absurd (omega arith));
-}
 
 -- a name of a list that is not among these
 pub unknown_at : (keys : List (Bor (List ℕ))) (called : List Name) (i : ℕ) (name : Name) → i < length called → list_any (λ key. bytes_eq (get_or called i name).text.now key.now) keys ≡ false → All (λ (n : tree.Name). Contains (names_of keys) n.text) (map name_view called) → ⊥

@@ -1,6 +1,6 @@
 -- The functions of a file, part by part.
-use Rattle.std.proofs.Common.{◌≡◌, ◌≢◌, ℕ, zero, suc, ◌+◌, ◌<◌, List, [], ◌∷◌, ◌++◌, length, map, get_or, take, drop, Some, refl, sym, ap, ◌∙◌, subst, arith, All, AllPairs, Contains, slice_get, append_assoc, append-nil, Bool, true, Bor}
-use Rattle.std.proofs.lemmas.List.{map-append, map_more, map_push, take-append-drop, drop_more, take_all}
+use Rattle.std.proofs.Common.{◌≡◌, ◌≢◌, ℕ, ◌+◌, ◌<◌, List, [], ◌∷◌, ◌++◌, length, map, get_or, take, drop, Some, refl, sym, ap, ◌∙◌, subst, All, AllPairs, Contains, slice_get, append_assoc, append-nil, true, Bor}
+use Rattle.std.proofs.lemmas.List.{map-append, map_more, map_push, take-append-drop, drop_more}
 use Rattle.std.specs.List.{AllZip, list_any}
 use Rattle.std.specs.Str.{bytes_eq}
 use Rattle.std.proofs.lemmas.List.Elements.{All-contains, Contains-append_right}

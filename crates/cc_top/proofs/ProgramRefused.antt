@@ -1,5 +1,5 @@
 -- Where no program is made, none is whole.
-use Rattle.std.proofs.Common.{◌≡◌, ◌≢◌, ℕ, ◌<◌, List, [], ◌∷◌, ◌++◌, length, map, get_or, Some, Bool, false, refl, sym, ap, ◌∙◌, subst, arith, All, AllPairs, Contains, slice_get, append-nil, Bor}
+use Rattle.std.proofs.Common.{◌≡◌, ◌≢◌, ℕ, List, [], ◌∷◌, ◌++◌, get_or, Some, false, sym, ap, ◌∙◌, subst, arith, All, AllPairs, Contains, slice_get, append-nil, Bor}
 use Rattle.std.specs.List.{list_any}
 use Rattle.std.specs.Str.{bytes_eq}
 use Rattle.std.proofs.lemmas.List.{map-append, length-map, get_or-map}
@@ -8,9 +8,8 @@ use Rattle.std.specs.Option.{option_map}
 use Rattle.std.proofs.lemmas.Option.{slice_get-map}
 use Rattle.cc_tree.specs.Program as tree
 use Rattle.cc_top.specs.Answer.{IsLinked}
-use Rattle.cc_top.specs.Linking.{AreNumbered, names_of, texts_of}
+use Rattle.cc_top.specs.Linking.{names_of}
 use Rattle.cc_top.specs.Listing.{heads_of, IsWhole}
-use Rattle.cc_top.specs.declared.program.Function.{Function}
 use Rattle.cc_top.proofs.ProgramNames.{Contains-slice_get, not_among}
 use Rattle.cc_top.proofs.ProgramParts.{CallsKnown}
 

@@ -1,5 +1,5 @@
 -- What holds of a linked program, as the code keeps it.
-use Rattle.std.specs.Prelude.{◌≡◌, ◌≢◌, ◌<◌, ◌≤◌, ℕ, List, Some, All, AllPairs, length, map, slice_get}
+use Rattle.std.specs.Prelude.{◌≡◌, ◌≢◌, ◌<◌, ◌≤◌, List, Some, All, AllPairs, length, map, slice_get}
 use Rattle.cc_top.specs.Views.{name_view}
 use Rattle.cc_top.specs.declared.program.Function.{Function}
 use Rattle.cc_top.specs.declared.program.Call.{Call}

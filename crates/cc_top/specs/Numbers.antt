@@ -1,6 +1,6 @@
 -- The numbers of a program's points, and the edges between them. The point of a function's entry has the function's
 -- number, that of its exit stands behind all entries, and behind all exits stands for each call the point after it.
-use Rattle.std.specs.Prelude.{◌≡◌, ◌≢◌, ◌<◌, ◌+◌, ◌-◌, ◌*◌, ◌==◌, ◌⊎◌, ℕ, zero, suc, List, [], ◌∷◌, Bool, true, not, Option, Some, None, slice_get, if◌then◌else◌}
+use Rattle.std.specs.Prelude.{◌≡◌, ◌<◌, ◌+◌, ◌-◌, ◌*◌, ◌==◌, ◌⊎◌, ℕ, zero, suc, List, [], ◌∷◌, Bool, true, not, Option, Some, None, slice_get, if◌then◌else◌}
 use Rattle.cc_base.specs.declared.reach.Edge.{Edge}
 use Rattle.cc_base.specs.Edges.{IsMarked}
 use Rattle.cc_top.specs.declared.program.Call.{Call}

@@ -1,5 +1,5 @@
 // Which calls a path from the root can reach.
-ghost use Rattle.std.specs.Prelude.{◌≡◌, ◌≢◌, ◌<◌, ◌+◌, ◌*◌, ◌^◌, ◌++◌, ◌⊎◌, ◌↔◌, ℕ, List, [], ◌∷◌, All, Contains, Some, false, IfOk, OnOk, length, slice_get, if◌then◌else◌};
+ghost use Rattle.std.specs.Prelude.{◌≡◌, ◌<◌, ◌+◌, ◌*◌, ◌^◌, ◌++◌, ◌⊎◌, ◌↔◌, ℕ, List, [], ◌∷◌, All, Contains, Some, IfOk, OnOk, length, slice_get, if◌then◌else◌};
 ghost use Rattle.cc_base.specs.Edges.{IsMarked};
 ghost use Rattle.cc_tree.specs.Couplings.{AreCouplings, Row};
 ghost use Rattle.cc_tree.specs.Points.{At, IsLive, IsReachable};
@@ -20,7 +20,8 @@ struct Points {
 }
 
 impl Points {
-    // The points of the program. An error is want of memory: more points than can be counted could not be held.
+    // The points of the program. The error is for form's sake: no memory holds so many functions or calls that their
+    // points could not be counted.
     fn of(program: &Program<'_>) -> Result<Points, AllocError>
         ensures functions { IfOk result (λ points. points.functions ≡ length program.now.functions.items) }
         ensures calls { IfOk result (λ points. points.calls ≡ length program.now.calls.items) }

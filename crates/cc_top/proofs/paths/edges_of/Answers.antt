@@ -1,9 +1,15 @@
-use Rattle.std.proofs.Common.{◌≡◌, ◌∙◌, ◌<◌, ◌≤◌, ◌+◌, ◌++◌, ◌∷◌, [], ℕ, List, length, cond, not, refl, ap, sym, subst, arith}
+use Rattle.std.proofs.Common.{◌≡◌, ◌∙◌, ◌<◌, ◌≤◌, ◌+◌, ◌++◌, ◌∷◌, [], ℕ, List, length, cond, not, refl, ap, subst, arith}
 use Rattle.std.proofs.lemmas.Option.{slice_get_read}
-use Rattle.cc_base.specs.declared.reach.Edge.{Edge}
 use Rattle.cc_top.specs.declared.program.Call.{Call}
 use Rattle.cc_top.proofs.PathEdges.{calls_none, calls_more_as, functions_none, functions_more, functions_all}
+use Rattle.cc_top.proofs.PathSites.{callees_below, callers_below}
 use Rattle.cc_top.proofs.paths.edges_of.Goals as goal
+
+pub push_edges-requires-clause-callers : goal.push_edges-requires-clause-callers
+push_edges-requires-clause-callers c = callers_below c.args.program.now c.in_ok-points.points.functions c.as_slice-calls.result.now c.requires.sound c.in_ok-points.ensures.functions c.as_slice-calls.ensures.value
+
+pub push_edges-requires-clause-callees : goal.push_edges-requires-clause-callees
+push_edges-requires-clause-callees c = callees_below c.args.program.now c.in_ok-points.points.functions c.as_slice-calls.result.now c.requires.sound c.in_ok-points.ensures.functions c.as_slice-calls.ensures.value
 
 pub loop-i-init : goal.loop-i-init
 loop-i-init c = calls_none (length c.args.program.now.functions.items) c.args.program.now.calls.items c.args.live.now c.new-edges.result.items c.new-edges.ensures.items
@@ -15,7 +21,6 @@ loop-i-preserved c =
 
 pub loop-function-init : goal.loop-function-init
 loop-function-init c =
-    let t = c.loop-i-test.false in
     let long : length c.args.program.now.calls.items ≤ c.loop-i.i = subst (λ (calls : List Call). length calls ≤ c.loop-i.i) c.as_slice-calls.ensures.value c.loop-i-test.false in
     functions_none (length c.args.program.now.functions.items) c.args.program.now.calls.items c.args.live.now c.loop-i.i c.loop-i.edges.items long c.loop-i.invariant
 

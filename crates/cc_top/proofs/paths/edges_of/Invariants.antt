@@ -1,4 +1,4 @@
-use Rattle.std.proofs.Common.{◌≡◌, length}
+use Rattle.std.proofs.Common.{length}
 use Rattle.std.specs.Prelude.{◌↔◌, Contains}
 use Rattle.cc_base.specs.declared.reach.Edge.{Edge}
 use Rattle.cc_top.proofs.PathEdges.{OfCalls, OfFunctions}

@@ -1,4 +1,4 @@
-use Rattle.std.proofs.Common.{◌≡◌, ◌∙◌, ◌<◌, ◌≤◌, List, [], length, length-set, get_or, replicate, false, true, Some, subst, slice_get, arith, rules}
+use Rattle.std.proofs.Common.{◌≡◌, ◌∙◌, ◌≤◌, List, [], length, length-set, get_or, replicate, false, true, Some, subst, slice_get, arith, rules}
 use Rattle.cc_top.specs.declared.program.Call.{Call}
 use Rattle.std.proofs.lemmas.Option.{slice_get-get_or}
 use Rattle.cc_top.proofs.PathEdges.{marks_none, marks_more, marks_all}

@@ -1,16 +1,14 @@
-use Rattle.std.proofs.Common.{◌≡◌, ◌∙◌, ℕ, Bool, ap, map, subst, take, length, List, sym}
+use Rattle.std.proofs.Common.{◌∙◌, ℕ, Bool, subst, length, List, sym}
 use Rattle.std.specs.Prelude.{◌↔◌}
 use Rattle.std.specs.declared.vec.Vec.{Vec}
 use Rattle.std.specs.declared.alloc.Global.{Global}
-use Rattle.std.proofs.lemmas.List.{take_all}
 use Rattle.std.proofs.lemmas.Result.{IfOk-weaker}
 use Rattle.cc_base.specs.declared.reach.Edge.{Edge}
 use Rattle.cc_base.specs.Edges.{AreBelow, IsMarked, Leads}
 use Rattle.cc_base.specs.Paths.{Reaches}
 use Rattle.cc_tree.specs.Points.{IsLive}
 use Rattle.cc_top.specs.Views.{program_view}
-use Rattle.cc_top.specs.declared.program.Call.{Call}
-use Rattle.cc_top.proofs.PathEdges.{call_edge, call_edges_whole}
+use Rattle.cc_top.proofs.PathEdges.{call_edges_whole}
 use Rattle.cc_top.proofs.PathSites.{edges_below, reaches_live}
 use Rattle.cc_top.proofs.paths.live_functions.Goals as goal
 
@@ -28,7 +26,8 @@ returns-clause-exact c =
     (λ (marks : Vec Bool Global). (f : ℕ) → IsMarked marks.items f ↔ Reaches (Leads c.deref.result.now) entry f)
     (λ (marks : Vec Bool Global). (f : ℕ) → IsMarked marks.items f ↔ IsLive (program_view c.args.program.now) entry f)
     (λ marks exact f.
-        let paths = reaches_live c.args.program.now c.requires f in
-        (λ marked. paths.0 (subst (λ (edges : List Edge). Reaches (Leads edges) entry f) all ((exact f).0 marked)),
-        λ live. (exact f).1 (subst (λ (edges : List Edge). Reaches (Leads edges) entry f) (sym all) (paths.1 live))))
+    let paths = reaches_live c.args.program.now c.requires f in (
+      λ marked. paths.0 (subst (λ (edges : List Edge). Reaches (Leads edges) entry f) all ((exact f).0 marked)),
+      λ live. (exact f).1 (subst (λ (edges : List Edge). Reaches (Leads edges) entry f) (sym all) (paths.1 live)),
+    ))
     c.reachable.ensures.exact

@@ -1,4 +1,4 @@
-use Rattle.std.proofs.Common.{ℕ, List, [], ◌∷◌, ◌++◌, refl, sym, ap, ◌∙◌, subst, append_assoc, map, All, Contains}
+use Rattle.std.proofs.Common.{List, ◌++◌, refl, sym, ap, ◌∙◌, subst, append_assoc, map, All, Contains}
 use Rattle.std.specs.List.{AllZip}
 use Rattle.cc_tree.specs.Program as tree
 use Rattle.cc_top.specs.Linking.{AreCalls, IsCallFrom, names_of}

@@ -1,4 +1,4 @@
-use Rattle.std.proofs.Common.{◌≡◌, ◌++◌, ℕ, List, map, take}
+use Rattle.std.proofs.Common.{◌≡◌, ◌++◌, ℕ, List, take}
 use Rattle.cc_top.specs.Linking.{AreCalls, names_of}
 use Rattle.cc_top.specs.Unit.{functions_of}
 use Rattle.cc_top.specs.Views.{parts_view}

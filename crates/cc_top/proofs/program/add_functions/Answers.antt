@@ -1,8 +1,6 @@
-use Rattle.std.proofs.Common.{refl, ap, sym, ◌∙◌, ◌++◌, map, take}
+use Rattle.std.proofs.Common.{refl, ap, sym, ◌∙◌, ◌++◌, map}
 use Rattle.std.proofs.lemmas.Bool.{not-false}
 use Rattle.cc_top.specs.Linking.{bare, bare_view}
-use Rattle.cc_top.specs.Unit.{functions_of}
-use Rattle.cc_top.specs.Views.{parts_view}
 use Rattle.cc_top.proofs.ProgramNames.{numbered_insert}
 use Rattle.cc_top.proofs.ProgramParts.{definition_twice, bare_more, functions_same}
 use Rattle.cc_top.proofs.program.add_functions.Goals as goal

@@ -1,6 +1,6 @@
-use Rattle.std.proofs.Common.{◌≡◌, ◌++◌, [], ℕ, List, refl, sym, ap, ◌∙◌, map}
+use Rattle.std.proofs.Common.{◌≡◌, ◌++◌, [], refl, sym, ap, map}
 use Rattle.cc_tree.specs.Program as tree
-use Rattle.cc_top.specs.Linking.{AreCalls, bare, bare_view, names_of, texts_of}
+use Rattle.cc_top.specs.Linking.{bare, bare_view, names_of, texts_of}
 use Rattle.cc_top.specs.Listing.{heads_of}
 use Rattle.cc_top.specs.Unit.{functions_of}
 use Rattle.cc_top.specs.Views.{parts_view}
