@@ -16,6 +16,7 @@ pub mod ProgramNames
 pub mod ProgramParts
 pub mod ProgramRefused
 pub mod ProjectNames
+pub mod Reached
 pub mod TokenLaws
 pub mod TokenSteps
 pub mod Told
