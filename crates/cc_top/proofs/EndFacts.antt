@@ -16,7 +16,7 @@ use Rattle.cc_top.specs.Ends.{End, done, refused, write_fault, memory, write_lin
 use Rattle.cc_top.specs.declared.refusal.Refusal.{Refusal}
 use Rattle.cc_top.specs.declared.refusal.Refusal.TheVariants as why
 
-append_known-nil : (o : Option (List ℕ)) → o ≡ append_known o []
+pub append_known-nil : (o : Option (List ℕ)) → o ≡ append_known o []
 append_known-nil None = refl
 append_known-nil (Some xs) = ap Some (sym (append-nil xs))
 

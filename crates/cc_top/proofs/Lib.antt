@@ -3,8 +3,6 @@ pub mod ListingNames
 pub mod ListingSteps
 pub mod ListingText
 pub mod NamePlain
-pub mod OneAnswer
-pub mod OneListing
 pub mod PathEdges
 pub mod PathExact
 pub mod PathPlaces

@@ -1,5 +1,5 @@
 -- What the call answers for its words and the files of its shelf.
-use Rattle.std.specs.Prelude.{◌≡◌, ◌≢◌, ◌⊎◌, ◌<◌, ◌≤◌, ◌++◌, ℕ, List, [], length, MatchOption, Some}
+use Rattle.std.specs.Prelude.{◌≡◌, ◌≢◌, ◌⊎◌, ◌<◌, ◌≤◌, ◌++◌, ℕ, List, [], length, MatchOption, None, Some}
 use Rattle.std.specs.FinMap.{get}
 use Rattle.cc_io.specs.Shelf.{Files}
 use Rattle.cc_tree.specs.Program.{Program}
@@ -75,3 +75,8 @@ Reads words files name =
     × ((name ≡ project_name)
     ⊎ ((bytes : List ℕ) × (project : Project) × Holds files project_name bytes × IsProject bytes project
     × ((name ≡ project.first.file) ⊎ ((first : List ℕ) × Holds files project.first.file first × (name ≡ project.second.file)))))
+
+-- the file is missing or too long, and this is the line that says so
+pub data Fails (files : Files) (name : List ℕ) : List ℕ → Type 0 where
+  Lacks : get files name ≡ None → Fails files name (missing_line name)
+  Passes : {bytes : List ℕ} → get files name ≡ Some bytes → limit < length bytes → Fails files name (long_line name)

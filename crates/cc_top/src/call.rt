@@ -3,7 +3,7 @@ ghost use Rattle.std.specs.Prelude.{◌≡◌, ◌≢◌, ◌⊎◌, ◌<◌, �
 ghost use Rattle.std.specs.Io.KnownBytes.{append_known};
 ghost use Rattle.cc_io.specs.Count.{Rose};
 ghost use Rattle.cc_io.specs.Sink.{GrowsByPrefix};
-ghost use Rattle.cc_top.specs.Answer.{IsAnswer, Reads, Reply};
+ghost use Rattle.cc_top.specs.Answer.{Fails, IsAnswer, Reads, Reply};
 ghost use Rattle.cc_top.specs.Ends.{End, Ends, Reported, Told};
 ghost use Rattle.cc_top.specs.Refusal.{line_of, memory_line, status_of, usage_line};
 ghost use Rattle.cc_top.specs.Told.{EndReads, EndTells};
@@ -65,6 +65,11 @@ pub fn run<S: Shelf, K: Sink, E: Sink>(
         × IsAnswer (map string_bytes words.now) files reply × (result ≡ reply.status)
         × (K.held out.new ≡ append_known (K.held out.old) reply.out)
         × (E.held err.new ≡ append_known (E.held err.old) reply.err)) }
+
+    // A file that the reading reaches and that is missing or too long is what is refused, where the status is below 4.
+    ensures reached { IfSome (S.files shelf.old) (λ files. (name line : List ℕ) → Reads (map string_bytes words.now) files name
+        → Fails files name line → result < 4 → (result ≡ 3) × (K.held out.new ≡ K.held out.old)
+        × (E.held err.new ≡ append_known (E.held err.old) line)) }
 
     // Some end says what stands on out and err, and which count rose. Over a told shelf its text or refusal is the answer's,
     // and a read fault names a file that is read.

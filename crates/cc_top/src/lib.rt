@@ -8,7 +8,6 @@
 #![tactic(auto)]
 
 mod call;
-pub mod laws;
 mod listing;
 mod paths;
 mod program;

@@ -1,6 +1,7 @@
 use Rattle.std.proofs.Common.{◌≡◌, ◌∙◌, Err, map, string_bytes, refl, ap}
 use Rattle.std.specs.Io.KnownBytes.{append_known}
 use Rattle.cc_io.specs.declared.sink.SinkFault.TheVariants.{Failed}
+use Rattle.cc_top.proofs.Reached.{reached_answer, reached_fault}
 use Rattle.cc_top.proofs.EndFacts.{answered_report, answered_text, end_of_report, end_of_text, end_of_write_fault, fault_of_report}
 use Rattle.cc_top.proofs.call.run.Goals as goal
 
@@ -8,6 +9,12 @@ pub returns-in-Err-clause-told : goal.returns-in-Err-clause-told
 returns-in-Err-clause-told g c =
     answered_report (g.S.Shelf.files c.args.shelf.now) (map string_bytes c.args.words.now) c.in-Err.refusal (g.K.Sink.held c.args.out.now) (g.E.Sink.held c.args.err.now) (g.E.Sink.held c.report.new.err)
     (g.E.Sink.faults c.args.err.now) (g.E.Sink.faults c.report.new.err) c.report.result c.in-Err.ensures.told c.report.ensures
+
+pub returns-in-Err-clause-reached : goal.returns-in-Err-clause-reached
+returns-in-Err-clause-reached g c =
+    let answered = answered_report (g.S.Shelf.files c.args.shelf.now) (map string_bytes c.args.words.now) c.in-Err.refusal (g.K.Sink.held c.args.out.now) (g.E.Sink.held c.args.err.now) (g.E.Sink.held c.report.new.err)
+    (g.E.Sink.faults c.args.err.now) (g.E.Sink.faults c.report.new.err) c.report.result c.in-Err.ensures.told c.report.ensures in
+    reached_answer (g.S.Shelf.files c.args.shelf.now) (map string_bytes c.args.words.now) _ _ _ _ c.report.result answered
 
 pub returns-in-Err-clause-ends : goal.returns-in-Err-clause-ends
 returns-in-Err-clause-ends g c =
@@ -24,6 +31,12 @@ returns-in-Ok-put-clause-told g c =
     answered_text (g.S.Shelf.files c.args.shelf.now) (map string_bytes c.args.words.now) c.in-Ok.text.items (g.K.Sink.held c.args.out.now) (g.K.Sink.held c.put.new.self) (g.E.Sink.held c.args.err.now)
     c.in-Ok.ensures.told (c.in-Ok-put.ensures.ok ∙ ap (append_known (g.K.Sink.held c.args.out.now)) c.deref.ensures.value)
 
+pub returns-in-Ok-put-clause-reached : goal.returns-in-Ok-put-clause-reached
+returns-in-Ok-put-clause-reached g c =
+    let answered = answered_text (g.S.Shelf.files c.args.shelf.now) (map string_bytes c.args.words.now) c.in-Ok.text.items (g.K.Sink.held c.args.out.now) (g.K.Sink.held c.put.new.self) (g.E.Sink.held c.args.err.now)
+    c.in-Ok.ensures.told (c.in-Ok-put.ensures.ok ∙ ap (append_known (g.K.Sink.held c.args.out.now)) c.deref.ensures.value) in
+    reached_answer (g.S.Shelf.files c.args.shelf.now) (map string_bytes c.args.words.now) _ _ _ _ 0 answered
+
 pub returns-in-Ok-put-clause-ends : goal.returns-in-Ok-put-clause-ends
 returns-in-Ok-put-clause-ends g c =
     end_of_text (g.S.Shelf.files c.args.shelf.now) (map string_bytes c.args.words.now) c.in-Ok.text.items _ _ _ _ _ _
@@ -35,3 +48,6 @@ returns-in-Err-Failed-clause-ends g c =
     let prefix = c.put.ensures.prefix failed in
     end_of_write_fault (g.S.Shelf.files c.args.shelf.now) (map string_bytes c.args.words.now) c.in-Ok.text.items _ _ _ _ _ _
     c.in-Ok.ensures.told (c.put.ensures.failed failed) (rw c.deref.ensures.value at prefix) c.tell_last.ensures
+
+pub returns-in-Err-Failed-clause-reached : goal.returns-in-Err-Failed-clause-reached
+returns-in-Err-Failed-clause-reached g c = reached_fault (g.S.Shelf.files c.args.shelf.now) (map string_bytes c.args.words.now) _ _ _ _

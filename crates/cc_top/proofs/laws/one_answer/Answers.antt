@@ -1,6 +1,0 @@
-use Rattle.cc_top.specs.Laws.{OneUnit}
-use Rattle.cc_top.proofs.OneAnswer.{one_answer}
-use Rattle.cc_top.proofs.laws.one_answer.Goals as goal
-
-pub returns : goal.returns
-returns c = one_answer ?
