@@ -75,8 +75,8 @@ reached_answer (Some files) words out out' err err' result answered = λ name li
     let is : of.0 ≡ refused line 3 = reached_fails words files name line of.0 reads fails of.1 in
     (of.2 ∙ ap (λ (r : Reply). r.status) is, of.3 ∙ ap (λ (r : Reply). append_known out r.out) is ∙ sym (append_known-nil out), of.4 ∙ ap (λ (r : Reply). append_known err r.err) is)
 
--- a status of 4 is none below 4
-pub reached_fault : (o : Option Files) (words : List (List ℕ)) (out out' err err' : Option (List ℕ))
-    → IfSome o (λ files. (name line : List ℕ) → Reads words files name → Fails files name line → 4 < 4 → (4 ≡ 3) × (out' ≡ out) × (err' ≡ append_known err line))
-reached_fault None words out out' err err' = tt
-reached_fault (Some files) words out out' err err' = λ name line reads fails below. absurd (omega (arith, below))
+-- a status from 4 up is none below 4
+pub reached_fault : (o : Option Files) (words : List (List ℕ)) (out out' err err' : Option (List ℕ)) (result : ℕ) → 4 ≤ result
+    → IfSome o (λ files. (name line : List ℕ) → Reads words files name → Fails files name line → result < 4 → (result ≡ 3) × (out' ≡ out) × (err' ≡ append_known err line))
+reached_fault None words out out' err err' result high = tt
+reached_fault (Some files) words out out' err err' result high = λ name line reads fails below. absurd (omega (arith, below, high))

@@ -1,4 +1,4 @@
-use Rattle.std.proofs.Common.{◌≡◌, ◌∙◌, Err, map, string_bytes, refl, ap}
+use Rattle.std.proofs.Common.{arith, ◌≡◌, ◌∙◌, Err, map, string_bytes, refl, ap}
 use Rattle.std.specs.Io.KnownBytes.{append_known}
 use Rattle.cc_io.specs.declared.sink.SinkFault.TheVariants.{Failed}
 use Rattle.cc_top.proofs.Reached.{reached_answer, reached_fault}
@@ -50,4 +50,4 @@ returns-in-Err-Failed-clause-ends g c =
     c.in-Ok.ensures.told (c.put.ensures.failed failed) (rw c.deref.ensures.value at prefix) c.tell_last.ensures
 
 pub returns-in-Err-Failed-clause-reached : goal.returns-in-Err-Failed-clause-reached
-returns-in-Err-Failed-clause-reached g c = reached_fault (g.S.Shelf.files c.args.shelf.now) (map string_bytes c.args.words.now) _ _ _ _
+returns-in-Err-Failed-clause-reached g c = reached_fault (g.S.Shelf.files c.args.shelf.now) (map string_bytes c.args.words.now) _ _ _ _ 4 (omega arith)
