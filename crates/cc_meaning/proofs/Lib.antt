@@ -1,0 +1,5 @@
+pub mod Along
+pub mod Ends
+pub mod Names
+pub mod Positions
+pub mod Turns

@@ -1,0 +1,6 @@
+pub mod Events
+pub mod Exercised
+pub mod Laws
+pub mod Parts
+pub mod Runs
+pub mod Walks
