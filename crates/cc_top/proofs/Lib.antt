@@ -17,6 +17,7 @@ pub mod ProjectNames
 pub mod Reached
 pub mod TokenLaws
 pub mod TokenSteps
+pub mod Sound
 pub mod Told
 pub mod UnitFronts
 pub mod UnitJoin

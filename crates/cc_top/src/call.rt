@@ -6,12 +6,15 @@ ghost use Rattle.cc_io.specs.Sink.{GrowsByPrefix};
 ghost use Rattle.cc_top.specs.Answer.{Fails, IsAnswer, Reads, Reply};
 ghost use Rattle.cc_top.specs.Ends.{End, Ends, Reported, Told};
 ghost use Rattle.cc_top.specs.Refusal.{line_of, memory_line, status_of, usage_line};
+ghost use Rattle.cc_top.specs.Sound.{CoversRuns, Listed};
 ghost use Rattle.cc_top.specs.Told.{EndReads, EndTells};
+ghost use Rattle.cc_top.specs.Unit.{program_of};
 ghost use Rattle.cc_top.specs.Words.{list_words};
 
 use crate::refusal::Refusal;
 use crate::steps::text_for;
 use cc_io::{Shelf, Sink, SinkFault};
+use cc_meaning::laws::listed_leaves_none_out;
 use std::alloc::Global;
 
 // Puts a line, and answers the status that this gives.
@@ -71,6 +74,12 @@ pub fn run<S: Shelf, K: Sink, E: Sink>(
         → Fails files name line → result < 4 → (result ≡ 3) × (K.held out.new ≡ K.held out.old)
         × (E.held err.new ≡ append_known (E.held err.old) line)) }
 
+    // Soundness: where the status is 0, out has the table of a program that the files make, and each call coupling that any
+    // run of this program exercises, whatever calls of the entry and turns, has its line in it.
+    ensures sound { IfSome (S.files shelf.old) (λ files. result ≡ 0 → (text : List ℕ)
+        × (K.held out.new ≡ append_known (K.held out.old) text) × (listed : Listed (map string_bytes words.now) files text)
+        × CoversRuns listed.project (program_of listed.parts listed.others) listed.entry text) }
+
     // Some end says what stands on out and err, and which count rose. Over a told shelf its text or refusal is the answer's,
     // and a read fault names a file that is read.
     ensures ends { (end : End)
@@ -95,6 +104,8 @@ pub fn run<S: Shelf, K: Sink, E: Sink>(
         × Reported usage_line 2 (E.held err.old) (E.held err.new) (E.faults err.old) (E.faults err.new) result }
     ensures not_usage { result ≡ 2 → (project : List ℕ) → map string_bytes words.now ≢ list_words project }
 {
+    // The law that `sound` rests on.
+    listed_leaves_none_out();
     let text = match text_for(alloc, words, shelf) {
         Ok(text) => text,
         Err(refusal) => return report(alloc, err, &refusal),

@@ -1,6 +1,7 @@
 use Rattle.std.proofs.Common.{arith, ◌≡◌, ◌∙◌, Err, map, string_bytes, refl, ap}
 use Rattle.std.specs.Io.KnownBytes.{append_known}
 use Rattle.cc_io.specs.declared.sink.SinkFault.TheVariants.{Failed}
+use Rattle.cc_top.proofs.Sound.{sound_answer, sound_refusal}
 use Rattle.cc_top.proofs.Reached.{reached_answer, reached_fault}
 use Rattle.cc_top.proofs.EndFacts.{answered_report, answered_text, end_of_report, end_of_text, end_of_write_fault, fault_of_report}
 use Rattle.cc_top.proofs.call.run.Goals as goal
@@ -51,3 +52,18 @@ returns-in-Err-Failed-clause-ends g c =
 
 pub returns-in-Err-Failed-clause-reached : goal.returns-in-Err-Failed-clause-reached
 returns-in-Err-Failed-clause-reached g c = reached_fault (g.S.Shelf.files c.args.shelf.now) (map string_bytes c.args.words.now) _ _ _ _ 4 (omega arith)
+
+pub returns-in-Err-clause-sound : goal.returns-in-Err-clause-sound
+returns-in-Err-clause-sound g c =
+    let answered = answered_report (g.S.Shelf.files c.args.shelf.now) (map string_bytes c.args.words.now) c.in-Err.refusal (g.K.Sink.held c.args.out.now) (g.E.Sink.held c.args.err.now) (g.E.Sink.held c.report.new.err)
+    (g.E.Sink.faults c.args.err.now) (g.E.Sink.faults c.report.new.err) c.report.result c.in-Err.ensures.told c.report.ensures in
+    sound_answer c.listed_leaves_none_out.ensures (g.S.Shelf.files c.args.shelf.now) (map string_bytes c.args.words.now) _ _ _ _ c.report.result answered
+
+pub returns-in-Ok-put-clause-sound : goal.returns-in-Ok-put-clause-sound
+returns-in-Ok-put-clause-sound g c =
+    let answered = answered_text (g.S.Shelf.files c.args.shelf.now) (map string_bytes c.args.words.now) c.in-Ok.text.items (g.K.Sink.held c.args.out.now) (g.K.Sink.held c.put.new.self) (g.E.Sink.held c.args.err.now)
+    c.in-Ok.ensures.told (c.in-Ok-put.ensures.ok ∙ ap (append_known (g.K.Sink.held c.args.out.now)) c.deref.ensures.value) in
+    sound_answer c.listed_leaves_none_out.ensures (g.S.Shelf.files c.args.shelf.now) (map string_bytes c.args.words.now) _ _ _ _ 0 answered
+
+pub returns-in-Err-Failed-clause-sound : goal.returns-in-Err-Failed-clause-sound
+returns-in-Err-Failed-clause-sound g c = sound_refusal (g.S.Shelf.files c.args.shelf.now) (map string_bytes c.args.words.now) _ _ 4 (omega arith)

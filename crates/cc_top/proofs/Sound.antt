@@ -1,0 +1,132 @@
+-- The table of an answer covers every run, by the law on rows that are exactly the couplings.
+use Rattle.std.proofs.Common.{◌≡◌, ◌⊎◌, ◌<◌, ◌≤◌, ◌+◌, ◌++◌, ℕ, zero, suc, List, [], ◌∷◌, length, Option, Some, None, IfSome, inl, inr, refl, sym, ap, ◌∙◌, arith, subst, append_assoc}
+use Rattle.std.specs.Prelude.{Contains, MatchOption}
+use Rattle.std.specs.FinMap.{get}
+use Rattle.std.specs.Io.KnownBytes.{append_known}
+use Rattle.cc_io.specs.Shelf.{Files}
+use Rattle.cc_meaning.specs.Laws.{ListedLeavesNoneOut}
+use Rattle.cc_tree.specs.Couplings.{Row}
+use Rattle.cc_tree.specs.Program.{Program}
+use Rattle.cc_top.specs.Answer.{Reply, refused, done, AfterRead, AfterUnit, OfProgram, OfFiles, OfProject, IsAnswer, Holds}
+use Rattle.cc_top.specs.Refusal.{missing_line, long_line}
+use Rattle.cc_top.specs.Listing.{AreLines, IsListing, header, line}
+use Rattle.cc_top.specs.Project.{Project, IsProject}
+use Rattle.cc_top.specs.Sound.{CoversRuns, HasLine, Listed}
+use Rattle.cc_top.specs.Unit.{Part, IsUnit, program_of}
+use Rattle.cc_top.specs.Words.{limit, list_words}
+use Rattle.cc_top.proofs.EndFacts.{Answered}
+
+-- a reply of status 0 is no refusal
+not_refused : {A : Type 0} (reply : Reply) (line : List ℕ) (status : ℕ) → 0 < status → reply.status ≡ 0 → reply ≡ refused line status → A
+not_refused reply line status high well is = absurd (omega (arith, high, well, ap (λ (r : Reply). r.status) is))
+
+abbrev Read : List ℕ → (List ℕ → Reply → Type 0) → Option (List ℕ) → Reply → Type 0
+Read name next o reply = MatchOption o (reply ≡ refused (missing_line name) 3) (λ bytes. ((limit < length bytes) × (reply ≡ refused (long_line name) 3)) ⊎ ((length bytes ≤ limit) × next bytes reply))
+
+held_of : (files : Files) (name : List ℕ) (next : List ℕ → Reply → Type 0) (reply : Reply) → reply.status ≡ 0 → (o : Option (List ℕ)) → get files name ≡ o → Read name next o reply
+    → (bytes : List ℕ) × Holds files name bytes × next bytes reply
+held_of files name next reply well None is h = not_refused reply (missing_line name) 3 (omega arith) well h
+held_of files name next reply well (Some bytes) is (inl p) = not_refused reply (long_line name) 3 (omega arith) well p.1
+held_of files name next reply well (Some bytes) is (inr p) = (bytes, (is, p.0), p.1)
+
+-- a file whose reading is not refused is held
+held : (files : Files) (name : List ℕ) (next : List ℕ → Reply → Type 0) (reply : Reply) → reply.status ≡ 0 → AfterRead files name next reply
+    → (bytes : List ℕ) × Holds files name bytes × next bytes reply
+held files name next reply well h = held_of files name next reply well (get files name) refl h
+
+-- a file whose form is not refused has parts
+parts_of : (file bytes : List ℕ) (next : List Part → Reply → Type 0) (reply : Reply) → reply.status ≡ 0 → AfterUnit file bytes next reply
+    → (parts : List Part) × IsUnit bytes parts × next parts reply
+parts_of file bytes next reply well (inl p) = not_refused reply _ 3 (omega arith) well p.1
+parts_of file bytes next reply well (inr p) = p
+
+abbrev Table : List (List ℕ) → Files → Reply → Type 0
+Table words files reply = (text : List ℕ) × (reply.out ≡ text) × Listed words files text
+
+table_of_files : (words : List (List ℕ)) (files : Files) (name bytes : List ℕ) (project : Project) (first second : List ℕ) (reply : Reply) → reply.status ≡ 0
+    → words ≡ list_words name → Holds files name bytes → IsProject bytes project → Holds files project.first.file first → Holds files project.second.file second
+    → OfFiles name project first second reply → Table words files reply
+table_of_files words files name bytes project first second reply well named held is_project first_held second_held of =
+    let behind : List Part → List Part → Reply → Type 0 = λ parts others. OfProgram name project (program_of parts others) in
+    let one = parts_of project.first.file first (λ parts. AfterUnit project.second.file second (behind parts)) reply well of in
+    let two = parts_of project.second.file second (behind one.0) reply well one.2 in
+    go one.0 one.1 two.0 two.1 two.2
+  where
+    go : (parts : List Part) → IsUnit first parts → (others : List Part) → IsUnit second others → OfProgram name project (program_of parts others) reply → Table words files reply
+    go parts is others is' (inl p) = not_refused reply _ 3 (omega arith) well p.1
+    go parts is others is' (inr p) = (
+      p.2,
+      ap (λ (r : Reply). r.out) p.4,
+      record {
+        name = name;
+        bytes = bytes;
+        project = project;
+        first = first;
+        second = second;
+        parts = parts;
+        others = others;
+        entry = p.0;
+        named = named;
+        held = held;
+        is_project = is_project;
+        first_held = first_held;
+        second_held = second_held;
+        first_unit = is;
+        second_unit = is';
+        linked = p.1;
+        listing = p.3;
+      },
+    )
+
+table_of_project : (words : List (List ℕ)) (files : Files) (name bytes : List ℕ) (reply : Reply) → reply.status ≡ 0 → words ≡ list_words name → Holds files name bytes
+    → OfProject files name bytes reply → Table words files reply
+table_of_project words files name bytes reply well named is_held (inl p) = not_refused reply _ 3 (omega arith) well p.1
+table_of_project words files name bytes reply well named is_held (inr p) =
+    let project = p.0 in
+    let second : List ℕ → Reply → Type 0 = λ first. AfterRead files project.second.file (λ second. OfFiles name project first second) in
+    let one = held files project.first.file second reply well p.2 in
+    let two = held files project.second.file (λ other. OfFiles name project one.0 other) reply well one.2 in
+    table_of_files words files name bytes project one.0 two.0 reply well named is_held p.1 one.1 two.1 two.2
+
+table_of : (words : List (List ℕ)) (files : Files) (reply : Reply) → reply.status ≡ 0 → IsAnswer words files reply → Table words files reply
+table_of words files reply well (inl p) = not_refused reply _ 2 (omega arith) well p.1
+table_of words files reply well (inr p) =
+    let one = held files p.0 (OfProject files p.0) reply well p.2 in
+    table_of_project words files p.0 one.0 reply well p.1 one.1 one.2
+
+-- a row that is among the rows has its line
+line_in : (project : Project) (program : Program) (number : ℕ) (rows : List Row) (text : List ℕ) → AreLines project program number rows text → (row : Row) → Contains rows row
+    → HasLine project program row text
+line_in project program number [] text lines row (k, lt, e) = absurd (omega (arith, lt))
+line_in project program number (r ∷ rows) text lines row (zero, lt, e) =
+    subst (λ q. HasLine project program q text) e (lines.0, number, [], lines.1, lines.2)
+line_in project program number (r ∷ rows) text lines row (suc k, lt, e) =
+    let own = line project number lines.0.caller lines.0.call lines.0.callee in
+    let rest = line_in project program (number + 1) rows lines.1 lines.3 row (k, omega (arith, lt), e) in
+    (rest.0, rest.1, own ++ rest.2, rest.3, lines.2 ∙ ap (λ l. own ++ l) rest.4 ∙ sym (append_assoc own rest.2 _))
+
+-- a table of exactly the couplings covers every run
+covers : ListedLeavesNoneOut → (project : Project) (program : Program) (entry : ℕ) (text : List ℕ) → IsListing project program entry text → CoversRuns project program entry text
+covers law project program entry text listing = λ calls are turns row exercised.
+    let has = law program entry listing.0 listing.1 calls are turns row exercised in
+    let in_lines = line_in project program 1 listing.0 listing.2 listing.3 row has in
+    (in_lines.0, in_lines.1, header ++ in_lines.2, in_lines.3, listing.4 ∙ ap (λ l. header ++ l) in_lines.4 ∙ sym (append_assoc header in_lines.2 _))
+
+-- what an answer of status 0 covers
+abbrev pub Covers : (words : List (List ℕ)) (files : Files) (out out' : Option (List ℕ)) → Type 0
+Covers words files out out' =
+    (text : List ℕ) × (out' ≡ append_known out text) × (listed : Listed words files text) × CoversRuns listed.project (program_of listed.parts listed.others) listed.entry text
+
+pub sound_answer : ListedLeavesNoneOut → (o : Option Files) (words : List (List ℕ)) (out out' err err' : Option (List ℕ)) (result : ℕ)
+    → IfSome o (λ files. Answered words files out out' err err' result) → IfSome o (λ files. result ≡ 0 → Covers words files out out')
+sound_answer law None words out out' err err' result answered = tt
+sound_answer law (Some files) words out out' err err' result answered = λ well.
+    let of = answered (omega (arith, well)) in
+    let table = table_of words files of.0 (sym of.2 ∙ well) of.1 in
+    let listed = table.2 in
+    (table.0, of.3 ∙ ap (append_known out) table.1, listed, covers law listed.project (program_of listed.parts listed.others) listed.entry table.0 listed.listing)
+
+-- a status that is not 0 covers nothing
+pub sound_refusal : (o : Option Files) (words : List (List ℕ)) (out out' : Option (List ℕ)) (result : ℕ) → 0 < result → IfSome o (λ files. result ≡ 0 → Covers words files out out')
+sound_refusal None words out out' result high = tt
+sound_refusal (Some files) words out out' result high = λ well. absurd (omega (arith, well, high))
