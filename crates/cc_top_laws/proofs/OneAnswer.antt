@@ -1,5 +1,5 @@
--- Words have at most one answer, where bytes spell at most one file of the first form.
-use Rattle.std.proofs.Common.{◌≡◌, ◌≢◌, ◌⊎◌, ◌<◌, ◌≤◌, ℕ, zero, suc, List, [], ◌∷◌, length, map, Option, Some, None, inl, inr, ⊎_elim, refl, sym, ap, ◌∙◌, arith, subst}
+-- Words have at most one answer, where bytes spell at most one file of the first form; an entry has at most one number.
+use Rattle.std.proofs.Common.{◌≡◌, ◌≢◌, ◌⊎◌, ◌<◌, ◌≤◌, ℕ, zero, suc, List, [], ◌∷◌, length, Option, Some, None, inl, inr, ⊎_elim, sym, ap, ◌∙◌, arith, subst}
 use Rattle.std.specs.Prelude.{AllPairs, MatchOption, slice_get, slice_index_or}
 use Rattle.std.specs.FinMap.{get}
 use Rattle.std.proofs.lemmas.Option.{same_Some, slice_get_within}
@@ -7,14 +7,14 @@ use Rattle.std.proofs.lemmas.Bool.{cases_eq}
 use Rattle.cc_io.specs.Shelf.{Files}
 use Rattle.cc_tree.specs.Program.{Function, Program}
 use Rattle.cc_top.specs.Words.{limit, list_words}
-use Rattle.cc_top.specs.Project.{Project, IsProject, project_members}
-use Rattle.cc_top.specs.Unit.{Part, IsUnit, program_of}
+use Rattle.cc_top.specs.Project.{Project}
+use Rattle.cc_top.specs.Unit.{Part, program_of}
 use Rattle.cc_top.specs.Listing.{IsWhole, IsEntry, IsListing, heads_of}
 use Rattle.cc_top_laws.specs.Laws.{OneUnit, OneAnswer}
 use Rattle.cc_top.specs.Refusal.{missing_line, long_line}
-use Rattle.cc_top.specs.Answer.{Reply, refused, unbuilt, done, AfterRead, AfterUnit, IsLinked, OfProgram, OfFiles, OfProject, IsAnswer}
+use Rattle.cc_top.specs.Answer.{Reply, refused, done, AfterRead, AfterUnit, OfProgram, OfFiles, OfProject}
 use Rattle.cc_top_laws.proofs.OneListing.{one_listing}
-use Rattle.cc_top.proofs.Reached.{same_project}
+use Rattle.cc_top_laws.proofs.OneProject.{same_project}
 
 head_at : (program : Program) (e : ℕ) (function : Function) → slice_get program e ≡ Some function → slice_get (heads_of program) e ≡ Some function.head.text
 head_at [] e function h = absurd (let e = h in cc)

@@ -1,12 +1,12 @@
--- A program has at most one table, and an entry at most one number.
-use Rattle.std.proofs.Common.{◌≡◌, ◌≢◌, ◌⊎◌, ◌<◌, ◌+◌, ◌++◌, ℕ, zero, suc, List, [], ◌∷◌, length, map, Some, inl, inr, ⊎_elim, refl, sym, ap, ◌∙◌, arith, subst}
-use Rattle.std.specs.Prelude.{All, AllPairs, Contains, slice_get}
+-- A program has at most one table.
+use Rattle.std.proofs.Common.{◌≡◌, ◌⊎◌, ◌+◌, ◌++◌, ℕ, zero, suc, List, [], ◌∷◌, inl, inr, ⊎_elim, refl, sym, ap, ◌∙◌, arith, subst}
+use Rattle.std.specs.Prelude.{Contains, slice_get}
 use Rattle.std.proofs.lemmas.Option.{same_Some}
 use Rattle.std.proofs.lemmas.List.Elements.{All-contains}
-use Rattle.cc_tree.specs.Program.{Name, Function, Program, IsFunction, IsSite}
-use Rattle.cc_tree.specs.Couplings.{Row, IsBefore, IsOrdered, AreCouplings}
+use Rattle.cc_tree.specs.Program.{Name, Function, Program, IsSite}
+use Rattle.cc_tree.specs.Couplings.{Row, IsBefore, IsOrdered}
 use Rattle.cc_top.specs.Project.{Project}
-use Rattle.cc_top.specs.Listing.{IsWhole, IsEntry, IsListing, AreLines, heads_of, header, line}
+use Rattle.cc_top.specs.Listing.{IsListing, AreLines, header, line}
 
 first_or_later : (x : Row) (xs : List Row) (y : Row) → Contains (x ∷ xs) y → (x ≡ y) ⊎ Contains xs y
 first_or_later x xs y (zero, lt, e) = inl e
@@ -61,8 +61,3 @@ one_listing project program entry a b p q =
     let rows : p.0 ≡ q.0 = same_rows p.0 q.0 p.1.ordered q.1.ordered (λ r c. q.1.complete r (p.1.sound r c)) (λ r c. p.1.complete r (q.1.sound r c)) in
     let lines : p.2 ≡ q.2 = same_lines project program 1 q.0 p.2 q.2 (subst (λ rs. AreLines project program 1 rs p.2) rows p.3) q.3 in
     p.4 ∙ ap (λ l. header ++ l) lines ∙ sym q.4
-
-head_at : (program : Program) (e : ℕ) (function : Function) → slice_get program e ≡ Some function → slice_get (heads_of program) e ≡ Some function.head.text
-head_at [] e function h = absurd (let e = h in cc)
-head_at (x ∷ xs) zero function h = ap Some (ap (λ (f : Function). f.head.text) (same_Some _ _ h))
-head_at (x ∷ xs) (suc e) function h = head_at xs e function h
