@@ -82,7 +82,7 @@ tests_grow : (program : Program) (d k k' : ℕ) → k ≤ k' → (calls : List �
 tests_grow program d k k' le [] = gives d tt
 tests_grow program d k k' le (call ∷ calls) = and_so d _ _ _ _ (runs_grow program d k k' le (Enters None call)) (tests_grow program d k k' le calls)
 
-same_told : (a b : Told) → a.events ≡ b.events → a.end ≡ b.end → a ≡ b
+pub same_told : (a b : Told) → a.events ≡ b.events → a.end ≡ b.end → a ≡ b
 same_told a b p q = λ i. record { events = p i; end = q i }
 
 -- what Grows says of the events and the end
