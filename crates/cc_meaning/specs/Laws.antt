@@ -12,7 +12,8 @@ use Rattle.cc_meaning.specs.Walks.{Activation, active_after_all, point_before, p
 abbrev pub AreCallsOf : (entry : ℕ) → (calls : List ℕ) → Type 0
 AreCallsOf entry calls = All (λ call. call ≡ entry) calls
 
--- the points of a run are a path across from the root, and those of each activation a path within from its entry
+-- Up to its last event the points of a run are a path across from the root, and those of each activation a path within
+-- from its entry.
 abbrev pub RunsArePaths : Type 0
 RunsArePaths =
     (program : Program) (entry : ℕ) (calls : List ℕ) → AreCallsOf entry calls → (turns : ℕ)

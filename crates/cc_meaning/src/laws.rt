@@ -10,7 +10,7 @@ ghost use Rattle.cc_meaning.specs.Laws.{
   WholeProgramsEnd,
 };
 
-/// The points of a run are a path across, and those of each activation a path within.
+/// Up to its last event the points of a run are a path across, and those of each activation a path within.
 pub fn runs_are_paths()
     ensures { RunsArePaths }
 {}
