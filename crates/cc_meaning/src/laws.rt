@@ -40,7 +40,7 @@ pub fn more_events_exercise_more()
     ensures { MoreEventsExerciseMore }
 {}
 
-/// A run of a whole program ends when its calls are done or its turns are out.
+/// A run of a whole program whose test calls functions of it ends when its calls are done or its turns are out.
 pub fn whole_programs_end()
     ensures { WholeProgramsEnd }
 {}

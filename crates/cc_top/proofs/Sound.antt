@@ -6,7 +6,7 @@ use Rattle.std.specs.Io.KnownBytes.{append_known}
 use Rattle.cc_io.specs.Shelf.{Files}
 use Rattle.cc_meaning.specs.Laws.{ListedLeavesNoneOut}
 use Rattle.cc_tree.specs.Couplings.{Row}
-use Rattle.cc_tree.specs.Program.{Program}
+use Rattle.cc_tree.specs.Program.{Program, IsSite}
 use Rattle.cc_top.specs.Answer.{Reply, refused, done, AfterRead, AfterUnit, OfProgram, OfFiles, OfProject, IsAnswer, Holds}
 use Rattle.cc_top.specs.Refusal.{missing_line, long_line}
 use Rattle.cc_top.specs.Listing.{AreLines, IsListing, header, line}
@@ -94,23 +94,49 @@ table_of words files reply well (inr p) =
     let one = held files p.0 (OfProject files p.0) reply well p.2 in
     table_of_project words files p.0 one.0 reply well p.1 one.1 one.2
 
+-- the line of a row stands behind the lines of the rows before it, of which the first has this number
+record IsLineIn (project : Project) (program : Program) (number : ℕ) (row : Row) (text : List ℕ) : Type 0 where
+  pub site : IsSite program row.f row.i row.g
+  pub earlier : List Row
+  pub before : List ℕ
+  pub are_lines : AreLines project program number earlier before
+  pub after : List ℕ
+  pub stands : text ≡ before ++ (line project (number + length earlier) site.caller site.call site.callee ++ after)
+
 -- a row that is among the rows has its line
 line_in : (project : Project) (program : Program) (number : ℕ) (rows : List Row) (text : List ℕ) → AreLines project program number rows text → (row : Row) → Contains rows row
-    → HasLine project program row text
+    → IsLineIn project program number row text
 line_in project program number [] text lines row (k, lt, e) = absurd (omega (arith, lt))
 line_in project program number (r ∷ rows) text lines row (zero, lt, e) =
-    subst (λ q. HasLine project program q text) e (lines.0, number, [], lines.1, lines.2)
+    let same : number ≡ number + 0 = omega arith in
+    subst (λ q. IsLineIn project program number q text) e (record {
+      site = lines.0;
+      earlier = [];
+      before = [];
+      are_lines = refl;
+      after = lines.1;
+      stands = lines.2 ∙ ap (λ n. line project n lines.0.caller lines.0.call lines.0.callee ++ lines.1) same;
+    })
 line_in project program number (r ∷ rows) text lines row (suc k, lt, e) =
     let own = line project number lines.0.caller lines.0.call lines.0.callee in
     let rest = line_in project program (number + 1) rows lines.1 lines.3 row (k, omega (arith, lt), e) in
-    (rest.0, rest.1, own ++ rest.2, rest.3, lines.2 ∙ ap (λ l. own ++ l) rest.4 ∙ sym (append_assoc own rest.2 _))
+    let same : number + 1 + length rest.earlier ≡ number + length (r ∷ rest.earlier) = omega arith in
+    let behind : ℕ → List ℕ = λ n. line project n rest.site.caller rest.site.call rest.site.callee ++ rest.after in
+    record {
+      site = rest.site;
+      earlier = r ∷ rest.earlier;
+      before = own ++ rest.before;
+      are_lines = (lines.0, rest.before, refl, rest.are_lines);
+      after = rest.after;
+      stands = lines.2 ∙ ap (λ l. own ++ l) rest.stands ∙ sym (append_assoc own rest.before (behind (number + 1 + length rest.earlier))) ∙ ap (λ n. (own ++ rest.before) ++ behind n) same;
+    }
 
 -- a table of exactly the couplings covers every run
 covers : ListedLeavesNoneOut → (project : Project) (program : Program) (entry : ℕ) (text : List ℕ) → IsListing project program entry text → CoversRuns project program entry text
 covers law project program entry text listing = λ calls are turns row exercised.
     let has = law program entry listing.0 listing.1 calls are turns row exercised in
-    let in_lines = line_in project program 1 listing.0 listing.2 listing.3 row has in
-    (in_lines.0, in_lines.1, header ++ in_lines.2, in_lines.3, listing.4 ∙ ap (λ l. header ++ l) in_lines.4 ∙ sym (append_assoc header in_lines.2 _))
+    let its = line_in project program 1 listing.0 listing.2 listing.3 row has in
+    record { site = its.site; earlier = its.earlier; before = its.before; are_lines = its.are_lines; after = its.after; stands = listing.4 ∙ ap (λ l. header ++ l) its.stands }
 
 -- what an answer of status 0 covers
 abbrev pub Covers : (words : List (List ℕ)) (files : Files) (out out' : Option (List ℕ)) → Type 0

@@ -1,5 +1,5 @@
 -- What a table covers: every coupling that any run of the program exercises.
-use Rattle.std.specs.Prelude.{◌≡◌, ◌++◌, ℕ, List}
+use Rattle.std.specs.Prelude.{◌≡◌, ◌+◌, ◌++◌, ℕ, List, length}
 use Rattle.cc_io.specs.Shelf.{Files}
 use Rattle.cc_meaning.specs.Exercised.{IsExercised}
 use Rattle.cc_meaning.specs.Laws.{AreCallsOf}
@@ -7,7 +7,7 @@ use Rattle.cc_meaning.specs.Runs.{run}
 use Rattle.cc_tree.specs.Couplings.{Row}
 use Rattle.cc_tree.specs.Program.{Program, IsSite}
 use Rattle.cc_top.specs.Answer.{Holds, IsLinked}
-use Rattle.cc_top.specs.Listing.{IsListing, line}
+use Rattle.cc_top.specs.Listing.{AreLines, IsListing, header, line}
 use Rattle.cc_top.specs.Project.{Project, IsProject}
 use Rattle.cc_top.specs.Unit.{Part, IsUnit, program_of}
 use Rattle.cc_top.specs.Words.{list_words}
@@ -32,11 +32,15 @@ pub record Listed (words : List (List ℕ)) (files : Files) (text : List ℕ) : 
   pub linked : IsLinked (program_of parts others) project.entry entry
   pub listing : IsListing project (program_of parts others) entry text
 
--- one of the lines of the text is the row's, with its components, its definition, its use and its name
-abbrev pub HasLine : Project → Program → Row → List ℕ → Type 0
-HasLine project program row text =
-    (site : IsSite program row.f row.i row.g) × (number : ℕ) × (before : List ℕ) × (after : List ℕ)
-    × (text ≡ before ++ (line project number site.caller site.call site.callee ++ after))
+-- one of the lines of the table is the row's, with its components, its definition, its use and its name: it stands
+-- behind the header and the lines of some rows, and its number is one more than these are
+pub record HasLine (project : Project) (program : Program) (row : Row) (text : List ℕ) : Type 0 where
+  pub site : IsSite program row.f row.i row.g
+  pub earlier : List Row
+  pub before : List ℕ
+  pub are_lines : AreLines project program 1 earlier before
+  pub after : List ℕ
+  pub stands : text ≡ header ++ (before ++ (line project (1 + length earlier) site.caller site.call site.callee ++ after))
 
 -- each call coupling that any run of the program exercises, whatever calls of the entry and turns, has its line
 abbrev pub CoversRuns : Project → Program → (entry : ℕ) → List ℕ → Type 0

@@ -74,8 +74,8 @@ pub fn run<S: Shelf, K: Sink, E: Sink>(
         → Fails files name line → result < 4 → (result ≡ 3) × (K.held out.new ≡ K.held out.old)
         × (E.held err.new ≡ append_known (E.held err.old) line)) }
 
-    // Soundness: where the status is 0, out has the table of a program that the files make, and each call coupling that any
-    // run of this program exercises, whatever calls of the entry and turns, has its line in it.
+    // Soundness: where the status is 0, an out that tells its bytes has the table of a program that the files make, and each
+    // call coupling that any run of this program exercises, whatever calls of the entry and turns, has its line in it.
     ensures sound { IfSome (S.files shelf.old) (λ files. result ≡ 0 → (text : List ℕ)
         × (K.held out.new ≡ append_known (K.held out.old) text) × (listed : Listed (map string_bytes words.now) files text)
         × CoversRuns listed.project (program_of listed.parts listed.others) listed.entry text) }

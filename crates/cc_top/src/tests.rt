@@ -1,7 +1,7 @@
 // Whole answers of the top call, over files in memory. The expected ones are worked out by hand.
 use crate::run;
 use cc_io::{SureShelf, SureSink};
-use std::alloc::Global;
+use std::process::Abort;
 use std::str;
 use std::test::Fail;
 
@@ -27,23 +27,43 @@ const LISTING: &str = "row,kind,from,to,definition,use,name\n1,call,A,B,a.c:2:16
 
 const USAGE: &str = "usage: coupling check|list|score|tests|pairs P | gen N\n";
 
-// What stands on out and err, and the status.
-#[derive(Drop)]
-struct Answer {
-    out: SureSink,
-    err: SureSink,
+// Asserts what stands on out and err after these words, and the status.
+fn expect_answer(
+    rt: &(impl Abort + AllocGlobal),
+    words: &[&str],
+    shelf: &mut SureShelf,
+    out: &str,
+    err: &str,
     status: u8,
+) -> Result<(), Fail> {
+    let mut given = Vec::new(rt.alloc());
+    for word in words {
+        given.push(String::from_str(rt.alloc(), word)?)?;
+    }
+    let mut out_sink = SureSink::new(rt.alloc());
+    let mut err_sink = SureSink::new(rt.alloc());
+    let ended = run(rt.alloc(), &given, shelf, &mut out_sink, &mut err_sink);
+    assert_eq!(rt; str::from_utf8(out_sink.held()).unwrap_or("?"), out);
+    assert_eq!(rt; str::from_utf8(err_sink.held()).unwrap_or("?"), err);
+    assert_eq!(rt; ended, status);
+    Ok(())
 }
 
-fn answer_to(alloc: Global, words: &[&str], shelf: &mut SureShelf) -> Result<Answer, Fail> {
-    let mut given = Vec::new(alloc);
-    for word in words {
-        given.push(String::from_str(alloc, word)?)?;
-    }
-    let mut out = SureSink::new(alloc);
-    let mut err = SureSink::new(alloc);
-    let status = run(alloc, &given, shelf, &mut out, &mut err);
-    Ok(Answer { out, err, status })
+// Asserts the answer of `list` for a project of these files.
+fn expect_listing(
+    rt: &(impl Abort + AllocGlobal),
+    project: &str,
+    a: &str,
+    b: &str,
+    out: &str,
+    err: &str,
+    status: u8,
+) -> Result<(), Fail> {
+    let mut shelf = SureShelf::new(rt.alloc());
+    shelf.add("p.toml", project.as_bytes())?;
+    shelf.add("a.c", a.as_bytes())?;
+    shelf.add("b.c", b.as_bytes())?;
+    expect_answer(rt, &["list", "p.toml"], &mut shelf, out, err, status)
 }
 
 #[test]
@@ -150,14 +170,7 @@ fn projects(rt: HostRuntime) -> Result<(), Fail> {
         ("", A, B, "", "p.toml: form not built yet\n", 3),
     ];
     for (project, a, b, out, err, status) in cases {
-        let mut shelf = SureShelf::new(rt.alloc());
-        shelf.add("p.toml", project.as_bytes())?;
-        shelf.add("a.c", a.as_bytes())?;
-        shelf.add("b.c", b.as_bytes())?;
-        let given = answer_to(rt.alloc(), &["list", "p.toml"], &mut shelf)?;
-        assert_eq!(rt; str::from_utf8(given.out.held()).unwrap_or("?"), out, "{a}");
-        assert_eq!(rt; str::from_utf8(given.err.held()).unwrap_or("?"), err, "{a}");
-        assert_eq!(rt; given.status, status, "{a}");
+        expect_listing(&rt, project, a, b, out, err, status)?;
     }
     Ok(())
 }
@@ -169,32 +182,21 @@ fn words_and_files(rt: HostRuntime) -> Result<(), Fail> {
     shelf.add("a.c", A.as_bytes())?;
     let long = vec![in rt.alloc(); b' '; 1_048_577]?;
     shelf.add("long.toml", &long)?;
-    shelf.add("blank.toml", &long[1..])?;
+    let blank = vec![in rt.alloc(); b' '; 1_048_576]?;
+    shelf.add("blank.toml", &blank)?;
+    expect_answer(&rt, &[], &mut shelf, "", USAGE, 2)?;
+    expect_answer(&rt, &["list"], &mut shelf, "", USAGE, 2)?;
+    expect_answer(&rt, &["list", "a", "b"], &mut shelf, "", USAGE, 2)?;
+    expect_answer(&rt, &["gen", "0"], &mut shelf, "", USAGE, 2)?;
+    expect_answer(&rt, &["draw", "p.toml"], &mut shelf, "", USAGE, 2)?;
     let cases = [
-        (["", "", ""], 0, USAGE, 2),
-        (["list", "", ""], 1, USAGE, 2),
-        (["list", "a", "b"], 3, USAGE, 2),
-        (["gen", "0", ""], 2, USAGE, 2),
-        (["draw", "p.toml", ""], 2, USAGE, 2),
-        (["list", "p.toml", ""], 2, "b.c: missing\n", 3),
-        (["list", "q.toml", ""], 2, "q.toml: missing\n", 3),
-        (["list", "long.toml", ""], 2, "long.toml: too long\n", 3),
-        (
-            ["list", "blank.toml", ""],
-            2,
-            "blank.toml: form not built yet\n",
-            3,
-        ),
+        ("p.toml", "b.c: missing\n"),
+        ("q.toml", "q.toml: missing\n"),
+        ("long.toml", "long.toml: too long\n"),
+        ("blank.toml", "blank.toml: form not built yet\n"),
     ];
-    for (words, count, err, status) in cases {
-        let given = answer_to(rt.alloc(), words.get(..count).unwrap_or(&[]), &mut shelf)?;
-        assert_eq!(rt; given.out.held().len(), 0, "{err}");
-        assert_eq!(rt;
-            str::from_utf8(given.err.held()).unwrap_or("?"),
-            err,
-            "{err}"
-        );
-        assert_eq!(rt; given.status, status, "{err}");
+    for (project, err) in cases {
+        expect_answer(&rt, &["list", project], &mut shelf, "", err, 3)?;
     }
     Ok(())
 }
