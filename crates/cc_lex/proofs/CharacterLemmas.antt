@@ -1,9 +1,9 @@
 -- Characters one after another.
-use Rattle.std.proofs.Common.{◌≡◌, ℕ, zero, suc, ◌+◌, ◌-◌, ◌≤◌, ◌<◌, add-zero, append_assoc, not, Bool, true, false, eqb, List, [], ◌∷◌, ◌++◌, length, drop, length-drop, Option, Some, None, refl, sym, ap, ◌∙◌, arith, inl, inr}
+use Rattle.std.proofs.Common.{◌≡◌, ℕ, zero, suc, ◌+◌, ◌-◌, ◌≤◌, ◌<◌, add-zero, append_assoc, not, eqb, List, [], ◌∷◌, ◌++◌, length, drop, length-drop, Option, Some, None, refl, sym, ap, ◌∙◌, arith, inl, inr}
 use Rattle.std.proofs.lemmas.Bool.{eqb-true, eqb-false, ne_eqb}
 use Rattle.std.proofs.lemmas.List.{nil_from_length}
 use Rattle.cc_lex.specs.Bytes.{first}
-use Rattle.cc_lex.specs.Characters.{escape_len, character_len, character_value, characters, values_of, escape_faults}
+use Rattle.cc_lex.specs.Characters.{character_len, character_value, characters, values_of, escape_faults}
 use Rattle.cc_lex.specs.Reading.{first_fault}
 use Rattle.cc_lex.proofs.Cases.{cases}
 

@@ -1,7 +1,7 @@
 -- A cut exists where no offset is faulty.
-use Rattle.std.proofs.Common.{◌≡◌, ℕ, zero, suc, ◌+◌, ◌≤◌, ◌<◌, Bool, true, List, [], ◌∷◌, ◌++◌, length, drop, length-append, Some, Result, Ok, Err, refl, sym, ap, subst, arith, ◌⊎◌, inl, inr}
+use Rattle.std.proofs.Common.{◌≡◌, ℕ, zero, suc, ◌+◌, ◌≤◌, ◌<◌, Bool, true, List, [], ◌∷◌, ◌++◌, length, length-append, Result, Ok, Err, refl, sym, ap, subst, arith, ◌⊎◌, inl, inr}
 use Rattle.cc_lex.specs.Pieces.{Piece, bytes_of, spell, Cuts, starts_after}
-use Rattle.cc_lex.specs.Faults.{everywhere, IsClean, anywhere}
+use Rattle.cc_lex.specs.Faults.{IsClean, anywhere}
 use Rattle.cc_lex.specs.Cut.{IsFaultless}
 use Rattle.cc_lex.specs.Reading.{next}
 use Rattle.cc_lex.proofs.Next.{next_stands, next_fault}

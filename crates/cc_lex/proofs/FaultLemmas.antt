@@ -1,10 +1,10 @@
 -- The faults of a token, in their order.
-use Rattle.std.proofs.Common.{◌≡◌, ℕ, zero, suc, ◌+◌, ◌-◌, ◌≤◌, ◌<◌, ◌^◌, Bool, true, false, cond, ◌&&◌, eqb, leb, List, [], ◌∷◌, length, Contains, Option, Some, None, refl, sym, ap, subst, arith, ◌⊎◌, inl, inr}
+use Rattle.std.proofs.Common.{◌≡◌, ℕ, zero, suc, ◌+◌, ◌-◌, ◌≤◌, ◌<◌, ◌^◌, true, ◌&&◌, eqb, leb, List, [], ◌∷◌, length, Contains, Option, Some, None, refl, sym, ap, subst, arith, ◌⊎◌, inl, inr}
 use Rattle.std.proofs.lemmas.Bool.{leb-true, leb-false}
 use Rattle.cc_arith.specs.declared.kind.IntKind.{IntKind}
 use Rattle.cc_lex.specs.declared.number.Suffix.{Suffix}
 use Rattle.cc_lex.specs.Bytes.{first, is_quote}
-use Rattle.cc_lex.specs.Spellings.{begins_number, is_digraph, is_token}
+use Rattle.cc_lex.specs.Spellings.{begins_number, is_digraph}
 use Rattle.cc_lex.specs.Numbers.{digits_of, suffix_of, suffix_meaning, value_of, types_for, base_of, type_with, type_of, faults_with, number_faults}
 use Rattle.cc_lex.specs.Characters.{inner, character_len, character_value, characters, characters_of, escape_faults, string_faults, character_faults}
 use Rattle.cc_lex.specs.Meanings.{is_prefix, faults}

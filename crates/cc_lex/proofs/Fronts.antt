@@ -1,11 +1,11 @@
 -- The longest token at the front of a text, and its first byte.
 use Rattle.std.proofs.Common.{not, ◌≡◌, ℕ, zero, suc, ◌≤◌, ◌<◌, Bool, true, false, ◌&&◌, ◌||◌, eqb, List, [], ◌∷◌, ◌++◌, length, take, refl, sym, ◌∙◌, subst, arith, inl, inr}
-use Rattle.std.proofs.lemmas.Bool.{eqb-true, not-true, or_cases, and_from}
+use Rattle.std.proofs.lemmas.Bool.{not-true, or_cases, and_from}
 use Rattle.std.proofs.lemmas.Bool.Decides.{nat_tests}
-use Rattle.std.specs.List.{list_any, list_all}
+use Rattle.std.specs.List.{list_all}
 use Rattle.cc_lex.specs.Bytes.{first, is_letter, is_digit, is_white, is_quote, in_white, in_name, in_number, chain}
 use Rattle.cc_lex.specs.Spellings.{spellings_of, puncts, digraphs, begins_number, is_name, is_number, is_quoted, is_closed, is_punct, is_digraph, is_token}
-use Rattle.cc_lex.specs.Reading.{run, closing, more, name_len, number_len, quoted_len, punct_len, digraph_len, token_len}
+use Rattle.cc_lex.specs.Reading.{run, closing, more, name_len, number_len, quoted_len, token_len}
 use Rattle.cc_lex.proofs.Cases.{cases, and_true, or_left, or_right}
 use Rattle.cc_lex.proofs.Measured.{Measures, run_most, run_chain, run_within, closing_most, closing_found, closing_within, closed_some, more_above, more_at, more_cases, either}
 use Rattle.cc_lex.proofs.Tables.{is_descending, table_measures, first_passes}

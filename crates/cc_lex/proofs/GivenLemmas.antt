@@ -1,7 +1,7 @@
 -- The tokens of a cut can be given.
-use Rattle.std.proofs.Common.{◌≡◌, ℕ, ◌≤◌, ◌<◌, Bool, true, false, cond, ◌&&◌, eqb, leb, ltb, List, [], ◌∷◌, ◌++◌, Option, Some, None, pos, negsuc, ◌-◌, Contains, refl, sym, ap, ◌∙◌, subst, arith, inl, inr}
-use Rattle.std.specs.Prelude.{unwrap_or, int_le, ◌≤ℤ◌}
-use Rattle.std.specs.List.{list_all, list_any}
+use Rattle.std.proofs.Common.{◌≡◌, ℕ, ◌≤◌, ◌<◌, Bool, true, false, cond, eqb, leb, ltb, List, [], ◌∷◌, ◌++◌, Option, Some, None, pos, Contains, refl, sym, ap, ◌∙◌, subst, arith, inl, inr}
+use Rattle.std.specs.Prelude.{unwrap_or, ◌≤ℤ◌}
+use Rattle.std.specs.List.{list_all}
 use Rattle.std.proofs.lemmas.Bool.{ltb-true, ltb-false, leb-true, and_from}
 use Rattle.std.proofs.lemmas.Int.{ints}
 use Rattle.cc_arith.specs.declared.kind.IntKind.{IntKind}
@@ -12,18 +12,17 @@ use Rattle.cc_lex.specs.declared.keyword.Keyword.{Keyword}
 use Rattle.cc_lex.specs.declared.number.Suffix.{Suffix}
 use Rattle.cc_lex.specs.declared.token.Token.{Token}
 use Rattle.cc_lex.specs.declared.token.TokenKind.TheVariants as token_kind
-use Rattle.cc_lex.specs.Bytes.{first, is_letter, is_digit, in_name, chain}
+use Rattle.cc_lex.specs.Bytes.{first, is_letter}
 use Rattle.cc_lex.specs.Spellings.{is_name, is_token, begins_number, keywords}
 use Rattle.cc_lex.specs.Numbers.{digits_of, suffix_of, suffix_meaning, value_of, types_of_rank, types_for, first_fit, base_of, type_with, type_of, number_faults}
 use Rattle.cc_lex.specs.Characters.{as_char}
 use Rattle.cc_lex.specs.Meanings.{lookup, named, word, faults, meaning}
-use Rattle.cc_lex.specs.Pieces.{Piece, white, comment, line, token, bytes_of, Stands, Cuts, starts_after}
+use Rattle.cc_lex.specs.Pieces.{Piece, white, comment, line, token, Cuts, starts_after}
 use Rattle.cc_lex.specs.Cut.{Cut, tokens_from}
 use Rattle.cc_lex.specs.Given.{is_constant_kind, CanBeGiven}
 use Rattle.cc_tree.specs.declared.place.Spot.{Spot}
 use Rattle.cc_tree.specs.Spots.{start, spot_behind}
 use Rattle.cc_lex.proofs.Cases.{cases, and_true}
-use Rattle.cc_lex.proofs.Fronts.{class_of, name, number, quoted, punct, digraph, mark_parts, punct_mark, digraph_mark, number_first}
 use Rattle.cc_lex.proofs.TypeLemmas.{top, fits_top}
 use Rattle.cc_lex.proofs.FaultLemmas.{contained_cases, contains_none, with_none, number_sound}
 use Rattle.cc_lex.proofs.MeaningLemmas.{name_of_letter}

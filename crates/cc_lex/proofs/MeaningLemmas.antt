@@ -1,10 +1,10 @@
 -- A name is ASCII text.
-use Rattle.std.proofs.Common.{◌≡◌, ℕ, true, false, eqb, List, [], ◌∷◌, refl, arith, ◌&&◌}
+use Rattle.std.proofs.Common.{◌≡◌, ℕ, true, false, List, [], ◌∷◌, refl, arith}
 use Rattle.std.proofs.lemmas.Bool.{and_from}
 use Rattle.std.proofs.lemmas.Bool.Decides.{nat_tests}
 use Rattle.std.specs.List.{list_all}
 use Rattle.cc_lex.specs.Ascii.{is_ascii}
-use Rattle.cc_lex.specs.Bytes.{first, is_letter, is_digit, is_quote, in_name, in_number, chain}
+use Rattle.cc_lex.specs.Bytes.{first, is_letter, is_quote, in_name, in_number, chain}
 use Rattle.cc_lex.specs.Spellings.{is_name, is_token, is_closed, begins_number}
 use Rattle.cc_lex.proofs.Cases.{and_true}
 use Rattle.cc_lex.proofs.Fronts.{class_of, name, number, quoted, punct, digraph, mark_parts, punct_mark, digraph_mark, number_first}

@@ -1,5 +1,5 @@
 -- What the lengths that the reader counts say of the fronts of a text.
-use Rattle.std.proofs.Common.{not, ◌≡◌, ℕ, zero, suc, ◌≤◌, ◌<◌, Bool, true, false, cond, ◌&&◌, ◌||◌, eqb, leb, max, List, [], ◌∷◌, length, take, length-take, refl, subst, arith, ◌⊎◌, inl, inr}
+use Rattle.std.proofs.Common.{not, ◌≡◌, ℕ, zero, suc, ◌≤◌, ◌<◌, Bool, true, false, cond, ◌&&◌, ◌||◌, eqb, leb, max, List, [], ◌∷◌, length, take, length-take, refl, arith, ◌⊎◌, inl, inr}
 use Rattle.std.proofs.lemmas.Bool.{eqb-true, leb-true, leb-false, or_cases}
 use Rattle.cc_lex.specs.Bytes.{chain}
 use Rattle.cc_lex.specs.Spellings.{is_closed}

@@ -1,5 +1,5 @@
 -- The piece that is read is the one that stands there, and a fault that is read is the least.
-use Rattle.std.proofs.Common.{◌≡◌, ℕ, zero, suc, ◌+◌, ◌≤◌, ◌<◌, Bool, true, false, ◌&&◌, ◌||◌, eqb, List, [], ◌∷◌, ◌++◌, length, take, drop, length-take, length-append, Contains, Result, Ok, Err, refl, sym, ap, subst, arith, ◌⊎◌, inl, inr}
+use Rattle.std.proofs.Common.{◌≡◌, ℕ, zero, suc, ◌≤◌, ◌<◌, Bool, true, false, ◌&&◌, ◌||◌, eqb, List, [], ◌∷◌, ◌++◌, length, take, drop, length-take, length-append, Contains, Result, Ok, Err, refl, sym, ap, subst, arith, inl, inr}
 use Rattle.std.proofs.lemmas.Bool.{eqb-true, eqb-false, eq-eqb, ne_eqb, or_cases, and_from}
 use Rattle.cc_lex.specs.Bytes.{first, is_white, is_quote, in_white, in_line, chain}
 use Rattle.cc_lex.specs.Spellings.{is_token}
@@ -11,7 +11,7 @@ use Rattle.cc_lex.proofs.Cases.{cases, and_true}
 use Rattle.cc_lex.proofs.Measured.{Measures}
 use Rattle.cc_lex.proofs.Fronts.{token_measures, token_some, token_first}
 use Rattle.cc_lex.proofs.PieceLemmas.{white_measures, line_measures, comment_measures, one_length, one_front, longest_of, take_drop, drop_front}
-use Rattle.cc_lex.proofs.FaultLemmas.{contained_cases, faults_ascending}
+use Rattle.cc_lex.proofs.FaultLemmas.{faults_ascending}
 
 white_first : (w r : List ℕ) → is_white_run w ≡ true → in_white 0 (first (w ++ r)) ≡ true
 white_first [] r e = absurd cc

@@ -1,12 +1,11 @@
 -- What holds of cuts.
-use Rattle.std.proofs.Common.{◌≡◌, ℕ, zero, suc, ◌+◌, Bool, true, List, [], ◌∷◌, ◌++◌, length, take, drop, append_assoc, Contains, refl, sym, ap, ◌∙◌, subst, inl, inr}
+use Rattle.std.proofs.Common.{◌≡◌, ℕ, Bool, true, List, [], ◌∷◌, ◌++◌, length, append_assoc, Contains, refl, sym, ap, ◌∙◌, subst, inl, inr}
 use Rattle.cc_tree.specs.declared.place.Spot.{Spot}
-use Rattle.cc_tree.specs.Spots.{start, next_spot, spot_behind}
+use Rattle.cc_tree.specs.Spots.{start, spot_behind}
 use Rattle.cc_lex.specs.declared.token.Token.{Token}
-use Rattle.cc_lex.specs.Pieces.{Piece, white, comment, line, token, bytes_of, spell, Stands, Cuts, starts_after}
+use Rattle.cc_lex.specs.Pieces.{Piece, white, comment, line, token, spell, Stands, Cuts, starts_after}
 use Rattle.cc_lex.specs.Cut.{Cut, IsFaultless, StandsAt, tokens_from}
 use Rattle.cc_lex.specs.Faults.{IsClean}
-use Rattle.cc_lex.specs.Spots.{spot_at}
 use Rattle.cc_lex.proofs.PieceLemmas.{take_front, drop_front}
 use Rattle.cc_lex.proofs.FaultLemmas.{contained_cases, contains_none}
 use Rattle.cc_lex.proofs.Whole.{one_cut, cut_sound}

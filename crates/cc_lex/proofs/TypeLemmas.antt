@@ -1,8 +1,7 @@
 -- Which types a value fits.
-use Rattle.std.proofs.Common.{◌≡◌, ℕ, ◌≤◌, ◌<◌, ◌^◌, true, false, cond, leb, List, [], ◌∷◌, ◌++◌, Option, Some, None, pos, refl, sym, ◌∙◌, ap, arith, inl, inr, ◌&&◌}
-use Rattle.std.specs.List.{find}
+use Rattle.std.proofs.Common.{◌≡◌, ℕ, ◌≤◌, ◌<◌, ◌^◌, false, leb, List, [], ◌∷◌, ◌++◌, None, pos, refl, sym, ◌∙◌, arith, inl, inr, ◌&&◌}
 use Rattle.std.specs.Option.{option_or}
-use Rattle.std.proofs.lemmas.Bool.{ltb-true, leb-true, leb-false}
+use Rattle.std.proofs.lemmas.Bool.{leb-true}
 use Rattle.std.proofs.lemmas.Bool.Decides.{nat_tests}
 use Rattle.std.proofs.lemmas.List.Folds.{find-append}
 use Rattle.cc_arith.specs.declared.kind.IntKind.{IntKind}

@@ -1,11 +1,11 @@
 -- There is at most one cut, and the fault at which reading stops is the least.
-use Rattle.std.proofs.Common.{◌≡◌, ℕ, zero, suc, ◌+◌, ◌<◌, Bool, true, false, eqb, List, [], ◌∷◌, ◌++◌, length, drop, length-append, append_assoc, append-nil, ◌&&◌, ◌||◌, Option, Some, None, Ok, Err, refl, sym, ap, ◌∙◌, subst, arith, ◌⊎◌, inl, inr, add-zero}
+use Rattle.std.proofs.Common.{◌≡◌, ℕ, zero, suc, ◌+◌, ◌<◌, Bool, true, false, eqb, List, [], ◌∷◌, ◌++◌, length, drop, length-append, append_assoc, append-nil, ◌&&◌, ◌||◌, Option, Some, None, Ok, Err, refl, sym, ap, ◌∙◌, subst, arith, ◌⊎◌, inl, inr}
 use Rattle.std.proofs.lemmas.Bool.{eqb-true}
 use Rattle.cc_lex.specs.Bytes.{first, is_blank}
 use Rattle.cc_lex.specs.Pieces.{Piece, bytes_of, spell, Stands, Cuts, starts_after}
-use Rattle.cc_lex.specs.Faults.{begins_splice, begins_trigraph, ends_trigraph, everywhere, IsClean, Faulty, LexFaulty, anywhere, piece, IsLeastFault, NotAfter}
+use Rattle.cc_lex.specs.Faults.{begins_splice, begins_trigraph, everywhere, IsClean, Faulty, LexFaulty, anywhere, piece, IsLeastFault, NotAfter}
 use Rattle.cc_lex.specs.Cut.{IsFaultless}
-use Rattle.cc_lex.specs.Reading.{next, Stopped, IsFirstAnywhere}
+use Rattle.cc_lex.specs.Reading.{next, Stopped}
 use Rattle.cc_lex.proofs.Cases.{cases, and_true}
 use Rattle.cc_lex.proofs.PieceLemmas.{drop_front}
 use Rattle.cc_lex.proofs.Next.{Found, begun, spliced, err_is, next_again, next_fault, fault_least, piece_some}

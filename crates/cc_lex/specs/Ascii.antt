@@ -1,3 +1,4 @@
+-- ASCII bytes, of which names are.
 use Rattle.std.specs.Prelude.{ℕ, Bool, nat_lt}
 
 abbrev pub is_ascii : ℕ → Bool

@@ -1,5 +1,5 @@
 -- The one cut of a text into tokens (C17 6.4, paragraph 4).
-use Rattle.std.specs.Prelude.{ℕ, ◌≡◌, Bool, true, List, [], ◌∷◌, ◌++◌, drop}
+use Rattle.std.specs.Prelude.{ℕ, ◌≡◌, true, List, [], ◌∷◌, ◌++◌, drop}
 use Rattle.cc_tree.specs.declared.place.Spot.{Spot}
 use Rattle.cc_tree.specs.Spots.{start, spot_behind}
 use Rattle.cc_lex.specs.declared.token.Token.{Token}

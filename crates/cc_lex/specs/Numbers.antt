@@ -1,5 +1,5 @@
 -- Integer constants (C17 6.4.4.1): their values and types, as functions of the spelling.
-use Rattle.std.specs.Prelude.{ℕ, ◌+◌, ◌-◌, ◌*◌, pos, Bool, true, false, ◌&&◌, ◌||◌, ◌==◌, nat_le, if◌then◌else◌, List, [], ◌∷◌, ◌++◌, length, take, drop, Option, Some, None, unwrap_or}
+use Rattle.std.specs.Prelude.{ℕ, ◌+◌, ◌-◌, ◌*◌, pos, Bool, true, false, ◌&&◌, ◌||◌, ◌==◌, nat_le, if◌then◌else◌, List, [], ◌∷◌, ◌++◌, take, drop, Option, Some, None}
 use Rattle.std.specs.List.{find}
 use Rattle.cc_arith.specs.Kinds.{is_in_range}
 use Rattle.cc_arith.specs.declared.kind.IntKind.{IntKind}

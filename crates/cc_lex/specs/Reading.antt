@@ -1,6 +1,6 @@
 -- The reader's parts: counts of bytes at the front of a text, the next piece, and how far the loop has come. Only the
 -- clauses of private functions speak of them.
-use Rattle.std.specs.Prelude.{ℕ, zero, suc, ◌≡◌, ◌+◌, ◌<◌, ◌≤◌, max, Bool, true, false, ◌&&◌, ◌||◌, ◌==◌, nat_lt, nat_le, if◌then◌else◌, List, [], ◌∷◌, ◌++◌, length, take, drop, Option, Some, None, Result, Ok, Err}
+use Rattle.std.specs.Prelude.{ℕ, zero, suc, ◌≡◌, ◌+◌, ◌<◌, ◌≤◌, max, Bool, true, false, ◌&&◌, ◌||◌, ◌==◌, nat_lt, nat_le, if◌then◌else◌, List, [], ◌∷◌, length, take, drop, Option, Some, None, Result, Ok, Err}
 use Rattle.cc_tree.specs.declared.place.Spot.{Spot}
 use Rattle.cc_tree.specs.Spots.{start, spot_behind}
 use Rattle.cc_lex.specs.declared.token.Token.{Token}
@@ -15,7 +15,7 @@ use Rattle.cc_lex.specs.Bytes.{first, is_letter, is_quote, in_white, in_line, in
 use Rattle.cc_lex.specs.Spellings.{spellings_of, puncts, digraphs, begins_number, is_token}
 use Rattle.cc_lex.specs.Meanings.{faults, meaning}
 use Rattle.cc_lex.specs.Pieces.{Piece, white, comment, line, token, begins, begins_comment, begins_skipped, Cuts, spell, starts_after}
-use Rattle.cc_lex.specs.Faults.{begins_splice, everywhere, IsLeastFault}
+use Rattle.cc_lex.specs.Faults.{begins_splice, everywhere}
 use Rattle.cc_lex.specs.Cut.{tokens_from}
 
 -- ---- Counts

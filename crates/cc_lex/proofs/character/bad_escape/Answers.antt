@@ -1,4 +1,4 @@
-use Rattle.std.proofs.Common.{◌≡◌, ℕ, ◌<◌, length, drop, length-drop, sym, ap, ◌∙◌, arith}
+use Rattle.std.proofs.Common.{◌<◌, length, length-drop, sym, ap, ◌∙◌, arith}
 use Rattle.cc_lex.specs.Reading.{first_fault}
 use Rattle.cc_lex.proofs.CharacterLemmas.{faults_later}
 use Rattle.cc_lex.proofs.character.bad_escape.Goals as goal

@@ -1,4 +1,4 @@
-use Rattle.std.proofs.Common.{◌≡◌, ℕ, ◌<◌, length, sym, arith}
+use Rattle.std.proofs.Common.{◌<◌, length, sym, arith}
 use Rattle.cc_lex.proofs.CharacterLemmas.{none_more, some_more}
 use Rattle.cc_lex.proofs.character.values_of.Goals as goal
 

@@ -1,4 +1,4 @@
-use Rattle.std.proofs.Common.{◌≡◌, ℕ, None, sym}
+use Rattle.std.proofs.Common.{◌≡◌, None, sym}
 use borrow.Author.Count.{below_more}
 use Rattle.cc_lex.specs.Banned.{rule_at}
 use Rattle.cc_lex.proofs.profile.banned.Goals as goal

@@ -1,4 +1,4 @@
-use Rattle.std.proofs.Common.{◌≡◌, ◌+◌, length, false}
+use Rattle.std.proofs.Common.{◌≡◌, ◌+◌, length}
 use Rattle.cc_lex.specs.Reading as spec
 use Rattle.cc_lex.specs.Reading.{test_of}
 use Rattle.cc_lex.proofs.run.block_len.Given as goal
