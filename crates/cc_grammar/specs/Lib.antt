@@ -1,0 +1,4 @@
+pub mod Outline
+pub mod Levels
+pub mod Names
+pub mod Outlines
