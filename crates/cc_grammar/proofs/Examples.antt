@@ -18,7 +18,7 @@ unfolding reading
 empty_file = refl
 
 -- files
-abbrev files_1_texts : List (List ℕ)
+abbrev pub files_1_texts : List (List ℕ)
 files_1_texts =
     codes "int a ;" ∷
     codes "int * const p ;" ∷
@@ -36,7 +36,7 @@ unfolding reading meaning word keywords puncts
 files_1 = refl
 
 -- files
-abbrev files_2_texts : List (List ℕ)
+abbrev pub files_2_texts : List (List ℕ)
 files_2_texts =
     codes "void f ( void ) { for ( int i = 0 ; ; ) ; }" ∷
     codes "void f ( int a ) { switch ( a ) { case 1 : default : b ; } }" ∷
@@ -54,7 +54,7 @@ unfolding reading meaning word keywords puncts
 files_2 = refl
 
 -- files
-abbrev files_3_texts : List (List ℕ)
+abbrev pub files_3_texts : List (List ℕ)
 files_3_texts =
     codes "void f ( void ) { typedef int T ; T x ; } T y ;" ∷
     codes "void f ( void ) { for ( typedef int T ; ; ) ; T x ; }" ∷
@@ -72,7 +72,7 @@ unfolding reading meaning word keywords puncts
 files_3 = refl
 
 -- files
-abbrev files_4_texts : List (List ℕ)
+abbrev pub files_4_texts : List (List ℕ)
 files_4_texts =
     codes "int a = 1 , * b = & a , c ( void ) ;" ∷
     codes "void f ( void ) { if ( a ) if ( b ) c ; else d ; else e ; }" ∷

@@ -1,2 +1,6 @@
-mod Texts
-mod Examples
+pub mod Agreement
+pub mod Examples
+pub mod Orders
+pub mod Shapes
+pub mod Texts
+pub mod WholeTrees

@@ -12,6 +12,7 @@ mod ctype;
 mod declaration;
 mod expr;
 mod ids;
+pub mod make;
 mod note;
 mod operator;
 mod stmt;
