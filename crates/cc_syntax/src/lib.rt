@@ -12,7 +12,6 @@ mod ctype;
 mod declaration;
 mod expr;
 mod ids;
-pub mod make;
 mod note;
 mod operator;
 mod stmt;
