@@ -8,5 +8,4 @@ ghost use Rattle.cc_grammar.specs.Outlines.{WellFormed, CutOff, limit};
 /// A whole file is a cut-off one too, of which no token is missing.
 pub fn a_whole_file_is_a_cut_off_one()
     ensures { (tokens : List TokenValue) (f : List (ExternalTree SpotValue)) → WellFormed tokens f → CutOff limit tokens }
-{
-}
+{}

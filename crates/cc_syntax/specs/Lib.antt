@@ -1,5 +1,3 @@
 pub mod Trees
 pub mod Views
 pub mod Depth
-pub mod Nodes
-pub mod Notes
