@@ -3,7 +3,6 @@
 use Rattle.std.proofs.Common.{◌≡◌, refl, ℕ, List, [], ◌∷◌, map, Option, Some, None, codes}
 use Rattle.cc_lex.specs.Meanings.{meaning, word}
 use Rattle.cc_lex.specs.Spellings.{keywords, puncts}
-use Rattle.cc_grammar.specs.Outcomes.{pure}
 use Rattle.cc_grammar.specs.Reading.{reading}
 use Rattle.cc_grammar.proofs.Texts.{stop}
 use Rattle.std.specs.Prelude.{Ok}

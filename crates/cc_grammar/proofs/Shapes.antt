@@ -1,5 +1,5 @@
 -- Which tree is read, with its spots: a token's column is its number.
-use Rattle.std.proofs.Common.{◌≡◌, refl, ℕ, List, [], ◌∷◌, Some, None, codes, pos, true, false}
+use Rattle.std.proofs.Common.{◌≡◌, refl, ℕ, List, [], ◌∷◌, Some, codes, pos}
 use Rattle.cc_arith.specs.declared.kind.IntKind.TheVariants as kind
 use Rattle.cc_arith.specs.declared.binary_operator.IntOp.TheVariants as int
 use Rattle.cc_arith.specs.declared.unary_operator.IntUnary.TheVariants as sign

@@ -1,5 +1,5 @@
 -- A whole tree is a cut-off one.
-use Rattle.std.proofs.Common.{◌≡◌, ◌≤◌, refl, ℕ, zero, suc, ◌+◌, ◌-◌, max, Bool, true, false, List, [], ◌∷◌, arith, ap, ◌∙◌, subst, sym}
+use Rattle.std.proofs.Common.{◌≡◌, ◌≤◌, refl, ℕ, zero, suc, ◌-◌, max, Bool, true, false, List, [], ◌∷◌, arith, ap, ◌∙◌, subst, sym}
 use Rattle.cc_lex.specs.declared.token.Token.{Token}
 use Rattle.cc_syntax.specs.Trees.{ExternalTree}
 use Rattle.cc_tree.specs.declared.place.Spot.{Spot}

@@ -1,6 +1,6 @@
 -- Typedef names. A name becomes one where its declarator in a declaration with `typedef` ends, in a file, a block or the
 -- first clause of a `for`, and stays one to the file's end.
-use Rattle.std.specs.Prelude.{ℕ, Bool, true, false, ◌||◌, List, [], ◌∷◌, Option, Some, None, if◌then◌else◌}
+use Rattle.std.specs.Prelude.{Bool, true, false, ◌||◌, List, [], ◌∷◌, if◌then◌else◌}
 use Rattle.cc_lex.specs.Spellings.{same}
 use Rattle.cc_syntax.specs.Trees.{Name, SpecTree, word, named, struct, enum, SpecTrees, no_specs, more_specs, DeclTree, declared, nameless, pointer, array, function, grouped, InitTree, init, DeclarationTree, declaration, StartTree, start_declaration, start_expr, no_start, StmtTree, compound, plain, empty, if_then, if_else, switch, while_loop, do_loop, for_loop, break, continue, return, BlockTree, block, ItemTree, declares, case_label, default_label, does, ItemTrees, no_items, more_items, ExternalTree, outer_declaration, definition}
 use Rattle.cc_syntax.specs.declared.operator.SpecWord.{SpecWord}

@@ -1,6 +1,6 @@
 -- The whole grammar as a reader from left to right, on lists. It reads the tree that the tokens spell, or tells from where on
 -- they spell none. A number `d` says how deep what is read may be.
-use Rattle.std.specs.Prelude.{◌≡◌, ℕ, zero, suc, ◌+◌, ◌-◌, Bool, true, false, ◌&&◌, ◌||◌, ◌==◌, List, [], ◌∷◌, length, Option, Some, None, Result, Ok, Err, nat_lt, nat_le, if◌then◌else◌}
+use Rattle.std.specs.Prelude.{ℕ, zero, suc, ◌+◌, Bool, true, false, ◌&&◌, ◌||◌, ◌==◌, List, [], ◌∷◌, length, Option, Some, None, nat_lt, nat_le, if◌then◌else◌}
 use Rattle.cc_tree.specs.declared.place.Spot.{Spot}
 use Rattle.cc_lex.specs.declared.token.Token.{Token}
 use Rattle.cc_lex.specs.declared.keyword.Keyword.TheVariants as k
@@ -12,9 +12,9 @@ use Rattle.cc_syntax.specs.Views.{gathered, gathered_types, gathered_specs, gath
 use Rattle.cc_syntax.specs.Depth.{expr_depth, declarator_depth}
 use Rattle.cc_grammar.specs.Levels.{level, binary_level}
 use Rattle.cc_grammar.specs.Names.{Names, is_type, has_typedef, after_declarator, after_start, after_stmt, after_item, after_external}
-use Rattle.cc_grammar.specs.Outlines.{begins, is_named, is_written, limit}
+use Rattle.cc_grammar.specs.Outlines.{begins, is_named, is_written}
 use Rattle.cc_grammar.specs.Classes.{next_is, next_is_key, skip, spot, next_literal, next_ident, Start, begins_name, begins_integer, begins_character, begins_string, begins_paren, begins_unary, begins_step, begins_sizeof, begins_nothing, start, Tail, goes_binary, goes_assign, goes_question, goes_comma, goes_call, goes_index, goes_dot, goes_arrow, goes_step, ends_here, tail, binds, left_level, SpecStart, spec_word, spec_struct, spec_enum, spec_named, no_spec, spec_start, starts_spec, StmtStart, begins_block, begins_empty, begins_if, begins_switch, begins_while, begins_do, begins_for, begins_break, begins_continue, begins_return, begins_case, begins_default, begins_other, stmt_start}
-use Rattle.cc_grammar.specs.Outcomes.{Outcome, Parser, and_then, ◌>>=◌, ◌>>◌, pure, ◌<$>◌, refuse, take, take_key}
+use Rattle.cc_grammar.specs.Outcomes.{Parser, and_then, ◌>>=◌, ◌>>◌, pure, ◌<$>◌, refuse, take, take_key}
 
 -- ---- Choices and lists
 
