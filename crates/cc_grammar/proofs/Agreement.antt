@@ -1,0 +1,93 @@
+-- On the texts that are files, what is read is spelled as it was written, with the spots, and is as deep as the walk says.
+use Rattle.std.proofs.Common.{◌≡◌, refl, ℕ, Bool, true, false, ◌&&◌, ◌==◌, List, [], ◌∷◌, map, Option, Some, None, Ok, Err}
+use Rattle.cc_tree.specs.declared.place.Spot.{Spot}
+use Rattle.cc_lex.specs.declared.token.Token.{Token}
+use Rattle.cc_lex.specs.declared.token.TokenKind.{TokenKind}
+use Rattle.cc_lex.specs.Meanings.{meaning, word}
+use Rattle.cc_lex.specs.Spellings.{keywords, puncts}
+use Rattle.cc_syntax.specs.Trees.{ExternalTree}
+use Rattle.cc_syntax.specs.Depth.{file_depth}
+use Rattle.cc_grammar.specs.Outcomes.{Outcome}
+use Rattle.cc_grammar.specs.Outline.{Written, spell, depth}
+use Rattle.cc_grammar.specs.Outlines.{file}
+use Rattle.cc_grammar.specs.Reading.{reading}
+use Rattle.cc_grammar.proofs.Texts.{tokens}
+use Rattle.cc_grammar.proofs.Examples as example
+
+abbrev found : Outcome (List (ExternalTree Spot)) → List (ExternalTree Spot)
+found (Ok x) = x.0
+found (Err ts) = []
+
+abbrev pub read : List ℕ → List (ExternalTree Spot)
+read text = found (reading 64 (tokens text))
+
+abbrev written : List ℕ → List Written
+written text = spell (file (read text)) []
+
+abbrev stands : Option Spot → Spot → Bool
+stands None s = true
+stands (Some n) s = (n.line == s.line) && (n.column == s.column)
+
+abbrev all_stand : List Written → List Token → Bool
+all_stand [] [] = true
+all_stand [] (t ∷ ts) = false
+all_stand (w ∷ ws) [] = false
+all_stand (w ∷ ws) (t ∷ ts) = stands w.spot t.spot && all_stand ws ts
+
+abbrev kinds_written : List ℕ → List TokenKind
+kinds_written text = map (λ w. w.kind) (written text)
+
+abbrev kinds : List ℕ → List TokenKind
+kinds text = map (λ t. t.kind) (tokens text)
+
+abbrev yes : List (List ℕ) → List Bool
+yes [] = []
+yes (t ∷ ts) = true ∷ yes ts
+
+spelled_1 : map kinds_written example.files_1_texts ≡ map kinds example.files_1_texts
+unfolding reading meaning word keywords puncts
+spelled_1 = refl
+
+placed_1 : map (λ t. all_stand (written t) (tokens t)) example.files_1_texts ≡ yes example.files_1_texts
+unfolding reading meaning word keywords puncts
+placed_1 = refl
+
+deep_1 : map (λ t. depth (file (read t))) example.files_1_texts ≡ map (λ t. file_depth (read t)) example.files_1_texts
+unfolding reading meaning word keywords puncts
+deep_1 = refl
+
+spelled_2 : map kinds_written example.files_2_texts ≡ map kinds example.files_2_texts
+unfolding reading meaning word keywords puncts
+spelled_2 = refl
+
+placed_2 : map (λ t. all_stand (written t) (tokens t)) example.files_2_texts ≡ yes example.files_2_texts
+unfolding reading meaning word keywords puncts
+placed_2 = refl
+
+deep_2 : map (λ t. depth (file (read t))) example.files_2_texts ≡ map (λ t. file_depth (read t)) example.files_2_texts
+unfolding reading meaning word keywords puncts
+deep_2 = refl
+
+spelled_3 : map kinds_written example.files_3_texts ≡ map kinds example.files_3_texts
+unfolding reading meaning word keywords puncts
+spelled_3 = refl
+
+placed_3 : map (λ t. all_stand (written t) (tokens t)) example.files_3_texts ≡ yes example.files_3_texts
+unfolding reading meaning word keywords puncts
+placed_3 = refl
+
+deep_3 : map (λ t. depth (file (read t))) example.files_3_texts ≡ map (λ t. file_depth (read t)) example.files_3_texts
+unfolding reading meaning word keywords puncts
+deep_3 = refl
+
+spelled_4 : map kinds_written example.files_4_texts ≡ map kinds example.files_4_texts
+unfolding reading meaning word keywords puncts
+spelled_4 = refl
+
+placed_4 : map (λ t. all_stand (written t) (tokens t)) example.files_4_texts ≡ yes example.files_4_texts
+unfolding reading meaning word keywords puncts
+placed_4 = refl
+
+deep_4 : map (λ t. depth (file (read t))) example.files_4_texts ≡ map (λ t. file_depth (read t)) example.files_4_texts
+unfolding reading meaning word keywords puncts
+deep_4 = refl

@@ -1,0 +1,25 @@
+//! The syntax trees of C files, as the grammar of the profile has them.
+//!
+//! One generic family with a note in each node: [`Expr`], [`TypeName`], [`Declarator`], [`Spec`] and what they hold,
+//! [`Value`], [`Declaration`], [`Stmt`], [`Block`], [`External`], and [`FileTree`] over all. [`Unit`] is the tree as it is
+//! written, where a note is the node's spot; the later trees have the same shape and say more in each note. A tree keeps
+//! each specifier and each optional comma as it stands, and parentheses are nodes.
+//!
+//! Contracts see a tree by `view` as a plain one (`specs/Trees.antt`). `docs/grammar.md` has the chapter.
+#![tactic(auto)]
+
+mod ctype;
+mod declaration;
+mod expr;
+mod ids;
+mod note;
+mod operator;
+mod stmt;
+
+pub use ctype::CType;
+pub use declaration::{Declaration, Init, Value};
+pub use expr::{Constant, Declarator, Expr, Member, Spec, TypeName};
+pub use ids::{FuncId, Occ, StructId, VarId};
+pub use note::{Numbered, NumberedUnit, Referent, Typed, TypedUnit, Unit};
+pub use operator::{AssignOp, BinaryOp, Side, SpecWord, StepOp, UnaryOp};
+pub use stmt::{Block, External, FileTree, ForStart, Function, Item, Stmt};
