@@ -1,5 +1,5 @@
 -- What the spelling of a token means, and which faults it has.
-use Rattle.std.specs.Prelude.{ℕ, pos, Bool, ◌&&◌, ◌||◌, ◌==◌, if◌then◌else◌, List, [], ◌∷◌, Option, Some, None, unwrap_or}
+use Rattle.std.specs.Prelude.{ℕ, pos, Bool, true, false, ◌&&◌, ◌||◌, ◌==◌, if◌then◌else◌, List, [], ◌∷◌, Option, Some, None, is_some, unwrap_or}
 use Rattle.cc_arith.specs.declared.kind.IntKind.TheVariants.{Int}
 use Rattle.cc_lex.specs.declared.token.TokenKind.{TokenKind}
 use Rattle.cc_lex.specs.declared.token.TokenKind.TheVariants as kind
@@ -14,6 +14,10 @@ use Rattle.cc_lex.specs.Characters.{inner, character_value, characters_of, value
 abbrev pub lookup : {A : Type 0} → List (List ℕ × A) → List ℕ → Option A
 lookup [] w = None
 lookup (k ∷ ks) w = if same k.0 w then Some k.1 else lookup ks w
+
+-- one of the 44 keywords
+abbrev pub is_keyword : List ℕ → Bool
+is_keyword w = is_some (lookup keywords w)
 
 -- ---- Kinds
 

@@ -22,6 +22,7 @@ mod step;
 mod token;
 
 pub use keyword::Keyword;
+pub use meaning::is_keyword;
 pub use profile::banned;
 pub use punct::Punct;
 pub use reader::lex;

@@ -82,6 +82,13 @@ fn keyword(w: &[u8]) -> Option<Keyword>
     keyword_in(&KEYWORDS, w)
 }
 
+/// Whether these bytes are one of the 44 keywords.
+pub fn is_keyword(w: &[u8]) -> bool
+    ensures { result ≡ spec.is_keyword w.now }
+{
+    keyword(w).is_some()
+}
+
 #[tactic(auto, unfolding(crate::specs::Spellings::puncts))]
 fn punct(w: &[u8]) -> Punct
     ensures { result ≡ unwrap_or (spec.lookup spellings.puncts w.now) Punct.Comma }

@@ -1,0 +1,9 @@
+pub mod Names
+pub mod Places
+pub mod Values
+pub mod Rules
+pub mod Project
+pub mod Order
+pub mod Outcome
+pub mod Keys
+pub mod Views

@@ -1,0 +1,334 @@
+// The rules, in their order.
+ghost use Rattle.std.specs.Prelude.{◌≡◌, ◌++◌, ◌∷◌, [], None, OnOk, IfErr, map, codes, ◌&&◌, nat_lt};
+ghost use Rattle.toml.specs.Data.{get};
+ghost use Rattle.toml.specs.View.{view};
+ghost use Rattle.cc_project.specs.Keys.{field_text};
+ghost use Rattle.cc_project.specs.Order.{array_rules, new_array_rules, at_each, at_each_new, component_rules, components_rules, test_rules, tests_rules, first_failing, shape_fault, name_of, files_of};
+ghost use Rattle.cc_project.specs.Names as names;
+ghost use Rattle.cc_project.specs.Outcome.{Reports};
+ghost use Rattle.cc_project.specs.Rules as rule;
+ghost use Rattle.cc_project.specs.Values as spec;
+ghost use Rattle.cc_project.specs.Views.{data_in, all_data, test_of};
+
+use crate::fault::{Field, ProjectFault, demand_at, demand_of, member, top};
+use crate::name::is_function_name;
+use crate::seen::Seen;
+use crate::value::{
+    Kind, at_key, fits, has_array, has_only, is_format, is_name_value, is_turns, items_in,
+    may_have_array, text_in, text_of,
+};
+use std::alloc::Global;
+use toml::Value;
+
+// Whether a file may come after `count` others.
+fn is_new_file(is_new: bool, count: usize) -> bool
+    ensures { result ≡ (is_new && nat_lt count 64) }
+{
+    is_new && count < 64
+}
+
+fn is_entry(text: &str, is_new: bool) -> bool
+    ensures { result ≡ (names.is_function_name text.now && is_new) }
+{
+    is_function_name(text.as_bytes()) && is_new
+}
+
+fn is_environment(text: &str, is_new: bool, entries: &Seen<'_>) -> bool
+    ensures { result ≡ ((names.is_function_name text.now && is_new) && names.is_new entries.now text.now) }
+{
+    is_entry(text, is_new) && entries.is_new(text)
+}
+
+fn is_test_name(value: Option<&Value>, is_new: bool) -> bool
+    ensures { result ≡ (rule.is_component_name (data_in value.entry) && is_new) }
+{
+    is_name_value(value) && is_new
+}
+
+// Each item is of this kind.
+fn check_items(
+    alloc: Global,
+    field: Field,
+    rule: u8,
+    kind: Kind,
+    items: &[Value],
+) -> Result<(), ProjectFault>
+    ensures ok { OnOk result (first_failing (at_each (field_text field) rule (test_of kind) 0 (all_data items.now)) ≡ None) }
+    ensures err { IfErr result (Reports (first_failing (at_each (field_text field) rule (test_of kind) 0 (all_data items.now)))) }
+{
+    for k in 0..items.len() {
+        let item = &items[k];
+        demand_at(alloc, field, k, rule, fits(kind, item))?;
+    }
+    Ok(())
+}
+
+// A rule on an array as a whole, and then on each of its items.
+fn check_array(
+    alloc: Global,
+    field: Field,
+    rule: u8,
+    whole: bool,
+    kind: Kind,
+    value: Option<&Value>,
+) -> Result<(), ProjectFault>
+    ensures ok { OnOk result (first_failing (array_rules (field_text field) rule whole (test_of kind) (data_in value.entry)) ≡ None) }
+    ensures err { IfErr result (Reports (first_failing (array_rules (field_text field) rule whole (test_of kind) (data_in value.entry)))) }
+{
+    demand_of(alloc, field, rule, whole)?;
+    check_items(alloc, field, rule, kind, items_in(value))?;
+    Ok(())
+}
+
+// J6: each file is a new one, and none after the 64th.
+fn check_files<'a>(
+    alloc: Global,
+    field: Field,
+    items: &'a [Value],
+    files: &mut Seen<'a>,
+) -> Result<(), ProjectFault>
+    ensures ok { OnOk result (first_failing (at_each_new (field_text field) 6 rule.is_new_file 0 files.old (map spec.text_of (all_data items.now))) ≡ None) }
+    ensures err { IfErr result (Reports (first_failing (at_each_new (field_text field) 6 rule.is_new_file 0 files.old (map spec.text_of (all_data items.now))))) }
+    ensures files { OnOk result (files.new ≡ files.old ++ map spec.text_of (all_data items.now)) }
+{
+    for k in 0..items.len() {
+        let item = &items[k];
+        let count = files.len();
+        let is_new = files.add(text_of(item))?;
+        demand_at(alloc, field, k, 6, is_new_file(is_new, count))?;
+    }
+    Ok(())
+}
+
+// J8: each item is the name of a function, and a new one.
+fn check_entries<'a>(
+    alloc: Global,
+    items: &'a [Value],
+    entries: &mut Seen<'a>,
+) -> Result<(), ProjectFault>
+    ensures ok { OnOk result (first_failing (at_each_new (codes "entries") 8 rule.is_entry 0 entries.old (map spec.text_of (all_data items.now))) ≡ None) }
+    ensures err { IfErr result (Reports (first_failing (at_each_new (codes "entries") 8 rule.is_entry 0 entries.old (map spec.text_of (all_data items.now))))) }
+    ensures entries { OnOk result (entries.new ≡ entries.old ++ map spec.text_of (all_data items.now)) }
+{
+    for k in 0..items.len() {
+        let item = &items[k];
+        let text = text_of(item);
+        let is_new = entries.add(text)?;
+        demand_at(alloc, top("entries"), k, 8, is_entry(text, is_new))?;
+    }
+    Ok(())
+}
+
+// J9: each item is the name of a function, a new one, and no entry.
+fn check_environment<'a>(
+    alloc: Global,
+    items: &'a [Value],
+    entries: &Seen<'a>,
+    environment: &mut Seen<'a>,
+) -> Result<(), ProjectFault>
+    ensures ok { OnOk result (first_failing (at_each_new (codes "environment") 9 (rule.is_environment entries.now) 0 environment.old (map spec.text_of (all_data items.now))) ≡ None) }
+    ensures err { IfErr result (Reports (first_failing (at_each_new (codes "environment") 9 (rule.is_environment entries.now) 0 environment.old (map spec.text_of (all_data items.now))))) }
+{
+    for k in 0..items.len() {
+        let item = &items[k];
+        let text = text_of(item);
+        let is_new = environment.add(text)?;
+        let holds = is_environment(text, is_new, entries);
+        demand_at(alloc, top("environment"), k, 9, holds)?;
+    }
+    Ok(())
+}
+
+fn check_entry_array<'a>(
+    alloc: Global,
+    value: Option<&'a Value>,
+    entries: &mut Seen<'a>,
+) -> Result<(), ProjectFault>
+    requires { entries.old ≡ [] }
+    ensures ok { OnOk result (first_failing (new_array_rules (codes "entries") 8 (rule.is_entry_array (data_in value.entry)) rule.is_entry (data_in value.entry)) ≡ None) }
+    ensures err { IfErr result (Reports (first_failing (new_array_rules (codes "entries") 8 (rule.is_entry_array (data_in value.entry)) rule.is_entry (data_in value.entry)))) }
+    ensures entries { OnOk result (entries.new ≡ spec.texts_in (data_in value.entry)) }
+{
+    demand_of(
+        alloc,
+        top("entries"),
+        8,
+        has_array(1, 256, Kind::Text, value),
+    )?;
+    check_entries(alloc, items_in(value), entries)?;
+    Ok(())
+}
+
+fn check_environment_array<'a>(
+    alloc: Global,
+    value: Option<&'a Value>,
+    entries: &Seen<'a>,
+) -> Result<(), ProjectFault>
+    ensures ok { OnOk result (first_failing (new_array_rules (codes "environment") 9 (rule.is_environment_array (data_in value.entry)) (rule.is_environment entries.now) (data_in value.entry)) ≡ None) }
+    ensures err { IfErr result (Reports (first_failing (new_array_rules (codes "environment") 9 (rule.is_environment_array (data_in value.entry)) (rule.is_environment entries.now) (data_in value.entry)))) }
+{
+    demand_of(
+        alloc,
+        top("environment"),
+        9,
+        may_have_array(256, Kind::Text, value),
+    )?;
+    let mut environment = Seen::new(alloc);
+    check_environment(alloc, items_in(value), entries, &mut environment)?;
+    Ok(())
+}
+
+// J3 to J7 for component `i`, behind components with these names and files.
+fn check_component<'a>(
+    alloc: Global,
+    i: usize,
+    component: &'a Value,
+    names: &mut Seen<'a>,
+    files: &mut Seen<'a>,
+) -> Result<(), ProjectFault>
+    ensures ok { OnOk result (first_failing (component_rules i names.old files.old (view component.now)) ≡ None) }
+    ensures err { IfErr result (Reports (first_failing (component_rules i names.old files.old (view component.now)))) }
+    ensures names { OnOk result (names.new ≡ names.old ++ name_of (view component.now) ∷ []) }
+    ensures files { OnOk result (files.new ≡ files.old ++ files_of (view component.now)) }
+{
+    let name = at_key(component, "name");
+    demand_of(
+        alloc,
+        member("component", i, "name"),
+        3,
+        is_name_value(name),
+    )?;
+    let is_new = names.add(text_in(name))?;
+    demand_of(alloc, member("component", i, "name"), 4, is_new)?;
+    let array = at_key(component, "files");
+    let field = member("component", i, "files");
+    let is_whole = has_array(1, 64, Kind::Text, array);
+    check_array(alloc, field, 5, is_whole, Kind::File, array)?;
+    check_files(alloc, field, items_in(array), files)?;
+    let is_all = has_only(component, &["name", "files"]);
+    demand_at(alloc, top("component"), i, 7, is_all)?;
+    Ok(())
+}
+
+fn check_components<'a>(alloc: Global, components: &'a [Value]) -> Result<(), ProjectFault>
+    ensures ok { OnOk result (first_failing (components_rules 0 [] [] (all_data components.now)) ≡ None) }
+    ensures err { IfErr result (Reports (first_failing (components_rules 0 [] [] (all_data components.now)))) }
+{
+    let mut names = Seen::new(alloc);
+    let mut files = Seen::new(alloc);
+    for i in 0..components.len() {
+        let component = &components[i];
+        check_component(alloc, i, component, &mut names, &mut files)?;
+    }
+    Ok(())
+}
+
+// J11 to J14 for test `i`, behind tests with these names.
+fn check_test<'a>(
+    alloc: Global,
+    i: usize,
+    test: &'a Value,
+    names: &mut Seen<'a>,
+) -> Result<(), ProjectFault>
+    ensures ok { OnOk result (first_failing (test_rules i names.old (view test.now)) ≡ None) }
+    ensures err { IfErr result (Reports (first_failing (test_rules i names.old (view test.now)))) }
+    ensures names { OnOk result (names.new ≡ names.old ++ name_of (view test.now) ∷ []) }
+{
+    let name = at_key(test, "name");
+    let is_new = names.add(text_in(name))?;
+    demand_of(
+        alloc,
+        member("test", i, "name"),
+        11,
+        is_test_name(name, is_new),
+    )?;
+    demand_of(
+        alloc,
+        member("test", i, "turns"),
+        12,
+        is_turns(at_key(test, "turns")),
+    )?;
+    let calls = at_key(test, "calls");
+    let is_whole = has_array(0, 10_000, Kind::Any, calls);
+    check_array(
+        alloc,
+        member("test", i, "calls"),
+        13,
+        is_whole,
+        Kind::Call,
+        calls,
+    )?;
+    let answers = at_key(test, "answers");
+    let is_whole = may_have_array(100_000, Kind::Any, answers);
+    check_array(
+        alloc,
+        member("test", i, "answers"),
+        13,
+        is_whole,
+        Kind::Integer,
+        answers,
+    )?;
+    let listed = at_key(test, "requirements");
+    let is_whole = may_have_array(100, Kind::Any, listed);
+    check_array(
+        alloc,
+        member("test", i, "requirements"),
+        13,
+        is_whole,
+        Kind::Requirement,
+        listed,
+    )?;
+    let is_all = has_only(test, &["name", "turns", "calls", "answers", "requirements"]);
+    demand_at(alloc, top("test"), i, 14, is_all)?;
+    Ok(())
+}
+
+fn check_tests<'a>(alloc: Global, tests: &'a [Value]) -> Result<(), ProjectFault>
+    ensures ok { OnOk result (first_failing (tests_rules 0 [] (all_data tests.now)) ≡ None) }
+    ensures err { IfErr result (Reports (first_failing (tests_rules 0 [] (all_data tests.now)))) }
+{
+    let mut names = Seen::new(alloc);
+    for i in 0..tests.len() {
+        let test = &tests[i];
+        check_test(alloc, i, test, &mut names)?;
+    }
+    Ok(())
+}
+
+/// `Ok` where the document breaks no rule, and else the first that it breaks.
+pub fn check(alloc: Global, document: &Value) -> Result<(), ProjectFault>
+    ensures ok { OnOk result (shape_fault (view document.now) ≡ None) }
+    ensures err { IfErr result (Reports (shape_fault (view document.now))) }
+{
+    demand_of(
+        alloc,
+        top("format"),
+        1,
+        is_format(at_key(document, "format")),
+    )?;
+    let components = at_key(document, "component");
+    demand_of(
+        alloc,
+        top("component"),
+        2,
+        has_array(1, 64, Kind::Table, components),
+    )?;
+    check_components(alloc, items_in(components))?;
+    let mut entries = Seen::new(alloc);
+    check_entry_array(alloc, at_key(document, "entries"), &mut entries)?;
+    check_environment_array(alloc, at_key(document, "environment"), &entries)?;
+    let tests = at_key(document, "test");
+    demand_of(
+        alloc,
+        top("test"),
+        10,
+        may_have_array(1000, Kind::Table, tests),
+    )?;
+    check_tests(alloc, items_in(tests))?;
+    let is_all = has_only(
+        document,
+        &["format", "component", "entries", "environment", "test"],
+    );
+    demand_of(alloc, top("top"), 14, is_all)?;
+    Ok(())
+}
