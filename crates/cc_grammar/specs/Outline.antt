@@ -63,7 +63,7 @@ size end = 0
 size (token h k s o) = suc (size o)
 size (part c h i o) = size i + size o
 
--- The first tokens alone. A part is there where one of its tokens is.
+-- The first tokens alone. A part is there where one of its tokens is or, if it has none, where a token after it is.
 abbrev pub first : ℕ → Outline → Outline
 first zero o = end
 first (suc n) end = end

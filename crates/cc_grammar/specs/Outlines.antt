@@ -93,14 +93,14 @@ HasSpot (array m d length) n = n ≡ m
 HasSpot (function m d ps) n = n ≡ m
 HasSpot (grouped m d) n = n ≡ m
 
--- A form around a named declarator has the spot of the name. Else the spot is that of the first token: of `*` or `(`,
+-- A form around a named declarator has the spot of the name. `*` and `(` before one without a name give it theirs,
 abbrev pub opening_spot : DeclTree Spot → Spot → Option Spot
 opening_spot d n = if is_named d then None else Some n
 
 abbrev pub ClosesOver : DeclTree Spot → Spot → Type 0
 ClosesOver d n = is_named d ≡ true → HasSpot d n
 
--- or of `[` or `(` behind nothing, and else that of the declarator before it.
+-- and so do `[` and `(` behind nothing. Behind a declarator the form has the spot of that one.
 abbrev pub suffix_spot : DeclTree Spot → Spot → Option Spot
 suffix_spot nameless n = Some n
 suffix_spot (declared m x) n = None
@@ -130,8 +130,8 @@ is_written (function n d ps) = true
 is_written (grouped n d) = true
 
 -- a declarator with a name, one without, and either
-abbrev pub with_name : DeclTree Spot → Outline → Outline → Outline
-with_name d = part true (is_named d ≡ true)
+abbrev pub named_one : DeclTree Spot → Outline → Outline → Outline
+named_one d = part (is_written d) (is_named d ≡ true)
 
 abbrev pub abstract_one : DeclTree Spot → Outline → Outline → Outline
 abstract_one d = part (is_written d) (is_named d ≡ false)
@@ -159,10 +159,6 @@ IsShaped (struct n None no_members) = ⊥
 IsShaped (enum n None no_constants trailing) = ⊥
 IsShaped (enum n (Some x) no_constants true) = ⊥
 IsShaped _ = Unit {0}
-
-abbrev pub HasValues : ValueTrees Spot → Type 0
-HasValues no_values = ⊥
-HasValues (more_values v vs) = Unit {0}
 
 abbrev pub HasDeclarators : DeclTrees Spot → Type 0
 HasDeclarators no_declarators = ⊥
@@ -262,11 +258,11 @@ abbrev mutual
 
   pub declarators : Names → DeclTrees Spot → Outline
   declarators names no_declarators = end
-  declarators names (more_declarators d ds) = with_name d (declarator names d) ▸ within (more_of_them names ds) ▸ end
+  declarators names (more_declarators d ds) = named_one d (declarator names d) ▸ within (more_of_them names ds) ▸ end
 
   pub more_of_them : Names → DeclTrees Spot → Outline
   more_of_them names no_declarators = end
-  more_of_them names (more_declarators d ds) = sign p.Comma ▸ with_name d (declarator names d) ▸ within (more_of_them names ds) ▸ end
+  more_of_them names (more_declarators d ds) = sign p.Comma ▸ named_one d (declarator names d) ▸ within (more_of_them names ds) ▸ end
 
   -- a list in braces, which counts, or none
   pub constant_list : Names → ConstantTrees Spot → Bool → Outline
@@ -286,9 +282,13 @@ abbrev mutual
   declarator names (pointer n c d) = part false (ClosesOver d n) (token (Unit {0}) (kind.Punct p.Star) (opening_spot d n) ▸ within (consts c) ▸ any_one d (declarator names d) ▸ end) ▸ end
   declarator names (array n d length) = part false (HasSpot d n) (part (is_written d) (is_direct d ≡ true) (declarator names d) ▸ token (Unit {0}) (kind.Punct p.LeftBracket) (suffix_spot d n) ▸ within (length_of names length) ▸ sign p.RightBracket ▸ end) ▸ end
   declarator names (function n d ps) = part false (HasSpot d n) (part (is_written d) (is_direct d ≡ true) (declarator names d) ▸ token (Unit {0}) (kind.Punct p.LeftParen) (suffix_spot d n) ▸ within (parameters names ps) ▸ sign p.RightParen ▸ end) ▸ end
-  declarator names (grouped n d) = part false (ClosesOver d n) (token (Unit {0}) (kind.Punct p.LeftParen) (opening_spot d n) ▸ part true (is_written d ≡ true) (declarator names d) ▸ sign p.RightParen ▸ end) ▸ end
+  declarator names (grouped n d) = part false (ClosesOver d n) (token (Unit {0}) (kind.Punct p.LeftParen) (opening_spot d n) ▸ part (is_written d) (is_written d ≡ true) (declarator names d) ▸ sign p.RightParen ▸ end) ▸ end
 
 -- ---- Initialisers and declarations
+
+abbrev pub HasValues : ValueTrees Spot → Type 0
+HasValues no_values = ⊥
+HasValues (more_values v vs) = Unit {0}
 
 abbrev mutual
   pub value : Names → ValueTree Spot → Outline
@@ -308,7 +308,7 @@ given names None = end
 given names (Some v) = sign p.Equal ▸ within (value names v) ▸ end
 
 abbrev pub init_of : Names → Bool → InitTree Spot → Outline
-init_of names typedef (init d v) = with_name d (declarator names d) ▸ within (given (after_declarator typedef d names) v) ▸ end
+init_of names typedef (init d v) = named_one d (declarator names d) ▸ within (given (after_declarator typedef d names) v) ▸ end
 
 -- with the names before the list
 abbrev pub more_inits : Names → Bool → List (InitTree Spot) → Outline
@@ -388,7 +388,7 @@ abbrev mutual
 
 abbrev pub external : Names → ExternalTree Spot → Outline
 external names (outer_declaration d) = declares_here false d (declaration_of names d) ▸ end
-external names (definition n ss d b) = part false (HasSpecs ss × HasSpot d n) (within (specs names ss) ▸ with_name d (declarator names d) ▸ within (block_of names b) ▸ end) ▸ end
+external names (definition n ss d b) = part false (HasSpecs ss × HasSpot d n) (within (specs names ss) ▸ named_one d (declarator names d) ▸ within (block_of names b) ▸ end) ▸ end
 
 abbrev pub externals : Names → List (ExternalTree Spot) → Outline
 externals names [] = end
