@@ -1,0 +1,8 @@
+//! Whether parts of a syntax tree are no deeper than a number.
+//!
+//! Unlike the depths of `cc_syntax_walks` these ask for no bound on the tree, and go no deeper than the number.
+#![tactic(auto)]
+
+mod fits;
+
+pub use fits::{declarator_fits, expr_fits, specs_fit, type_fits};
