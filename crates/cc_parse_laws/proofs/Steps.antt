@@ -1,5 +1,5 @@
 -- Steps of reading: what a step that did not fail has read, and how a step reads what stands there.
-use Rattle.std.proofs.Common.{◌≡◌, ◌≤◌, ◌<◌, ◌+◌, refl, ℕ, zero, suc, Bool, true, false, List, [], ◌∷◌, length, Option, Some, None, Result, Ok, Err, arith, sym, ap, ◌∙◌, subst, ◌⊎◌, inl, inr}
+use Rattle.std.proofs.Common.{◌≡◌, ◌+◌, refl, ℕ, zero, suc, Bool, true, false, List, [], ◌∷◌, length, Option, None, Ok, Err, arith, sym, ap, ◌∙◌, subst, ◌⊎◌, inl, inr}
 use denote.Enum.Bare.{same_true, true_same}
 use Rattle.cc_tree.specs.declared.place.Spot.{Spot}
 use Rattle.cc_lex.specs.declared.token.Token.{Token}
@@ -13,7 +13,7 @@ use Rattle.cc_grammar.specs.Outline.{Outline, end, token, part, size, Stands}
 use Rattle.cc_grammar.specs.Outlines.{sign, key}
 use Rattle.cc_grammar.specs.Classes.{is_punct, is_keyword, next_is, next_is_key, skip, spot}
 use Rattle.cc_grammar.specs.Outcomes.{Outcome, Parser, and_then, take, take_key}
-use Rattle.cc_grammar.specs.Reading.{branch, where_next}
+use Rattle.cc_grammar.specs.Reading.{branch}
 use Rattle.cc_parse_laws.proofs.Spans.{Inside, Reads}
 
 -- ---- Steps that did not fail
