@@ -2,5 +2,6 @@ pub mod Depths
 pub mod Inner
 pub mod Lists
 pub mod NextTokens
+pub mod SoundTypes
 pub mod Spans
 pub mod Steps
