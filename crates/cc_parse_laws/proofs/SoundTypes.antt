@@ -1,19 +1,19 @@
 -- Type names, parameters and argument lists that are read are there.
-use Rattle.std.proofs.Common.{◌≡◌, ◌≤◌, refl, ℕ, zero, suc, Bool, true, false, List, [], ◌∷◌, length, None, Result, Ok, Err, arith, sym, subst, ◌⊎◌, inl, inr}
+use Rattle.std.proofs.Common.{◌≡◌, ◌≤◌, refl, ℕ, suc, List, [], ◌∷◌, None, Ok, arith, subst, inl, inr}
 use Rattle.cc_tree.specs.declared.place.Spot.{Spot}
 use Rattle.cc_lex.specs.declared.token.Token.{Token}
 use Rattle.cc_lex.specs.declared.punct.Punct.TheVariants as p
-use Rattle.cc_syntax.specs.Trees.{ExprTree, SpecTrees, TypeTree, type_name, DeclTree, no_types, no_exprs}
+use Rattle.cc_syntax.specs.Trees.{ExprTree, TypeTree, type_name}
 use Rattle.cc_syntax.specs.Views.{gathered, gathered_types}
 use Rattle.cc_grammar.specs.Levels.{level}
 use Rattle.cc_grammar.specs.Names.{Names}
-use Rattle.cc_grammar.specs.Outline.{Outline, end, token, part, ◌▸◌}
+use Rattle.cc_grammar.specs.Outline.{end, ◌▸◌}
 use Rattle.cc_grammar.specs.Outlines as o
 use Rattle.cc_grammar.specs.Classes.{next_is, skip, spot}
-use Rattle.cc_grammar.specs.Outcomes.{Outcome, Parser, and_then, take, ◌>>=◌, ◌>>◌, pure, ◌<$>◌}
+use Rattle.cc_grammar.specs.Outcomes.{take, ◌>>=◌, ◌>>◌, pure, ◌<$>◌}
 use Rattle.cc_grammar.specs.Reading as r
 use Rattle.cc_grammar.specs.Reading.{Inner, Mode, without_name, with_or_without, separated, skipping}
-use Rattle.cc_parse_laws.proofs.Spans.{Inside, Reads}
+use Rattle.cc_parse_laws.proofs.Spans.{Reads}
 use Rattle.cc_parse_laws.proofs.Steps.{bind_ok, map_ok, ok_is, branched, next_reads, take_reads}
 use Rattle.cc_parse_laws.proofs.Lists.{Separated, Others, separated_sound}
 use Rattle.cc_parse_laws.proofs.Inner.{ReadsExpr, ReadsDeclarator, Suits, SoundInner}
