@@ -3,6 +3,7 @@ pub mod Inner
 pub mod Lists
 pub mod NextTokens
 pub mod SoundClimbing
+pub mod SoundExpressions
 pub mod SoundTypes
 pub mod Spans
 pub mod Steps
