@@ -4,6 +4,7 @@ pub mod Lists
 pub mod NextTokens
 pub mod SoundClimbing
 pub mod SoundExpressions
+pub mod SoundLists
 pub mod SoundSpecifiers
 pub mod SoundTypes
 pub mod Spans
