@@ -3,8 +3,10 @@ pub mod Inner
 pub mod Lists
 pub mod NextTokens
 pub mod SoundClimbing
+pub mod SoundDeclarators
 pub mod SoundExpressions
 pub mod SoundLists
+pub mod SoundReaders
 pub mod SoundSpecifiers
 pub mod SoundTypes
 pub mod Spans
