@@ -179,9 +179,9 @@ spec_kind_is : (names : Names) (w : TokenKind) → Is (spec_token (spec_kind nam
 spec_kind_is names (kind.Keyword w) = spec_key_is names w
 spec_kind_is names (kind.Identifier x) = decided (is_type names x) refl
   where
-  decided : (b : Bool) → is_type names x ≡ b → Is (spec_token (spec_kind names (kind.Identifier x))) (kind.Identifier x) × IsNamed names (spec_kind names (kind.Identifier x))
-  decided true e = subst (λ s. Is (spec_token s) (kind.Identifier x) × IsNamed names s) (let same : spec_named x ≡ spec_kind names (kind.Identifier x) = rw e refl in same) (refl, e)
-  decided false e = subst (λ s. Is (spec_token s) (kind.Identifier x) × IsNamed names s) (let same : no_spec ≡ spec_kind names (kind.Identifier x) = rw e refl in same) (tt, tt)
+    decided : (b : Bool) → is_type names x ≡ b → Is (spec_token (spec_kind names (kind.Identifier x))) (kind.Identifier x) × IsNamed names (spec_kind names (kind.Identifier x))
+    decided true e = subst (λ s. Is (spec_token s) (kind.Identifier x) × IsNamed names s) (let same : spec_named x ≡ spec_kind names (kind.Identifier x) = rw e refl in same) (refl, e)
+    decided false e = subst (λ s. Is (spec_token s) (kind.Identifier x) × IsNamed names s) (let same : no_spec ≡ spec_kind names (kind.Identifier x) = rw e refl in same) (tt, tt)
 spec_kind_is names (kind.Punct t) = (tt, tt)
 spec_kind_is names (kind.Integer v c) = (tt, tt)
 spec_kind_is names (kind.Character v) = (tt, tt)
@@ -225,14 +225,14 @@ literal_next bytes (t ∷ ts) e = literal_kind t.kind bytes e
 pub id_ok : (names : Names) (ts : List Token) (x : Name × List Token) → id names ts ≡ Ok x → (is_type names x.0 ≡ false) × NextKind (kind.Identifier x.0) ts × (skip ts ≡ x.1)
 id_ok names ts x e = by (next_ident ts) refl e
   where
-  by : (y : Option Name) → next_ident ts ≡ y → id_by names y ts ≡ Ok x → (is_type names x.0 ≡ false) × NextKind (kind.Identifier x.0) ts × (skip ts ≡ x.1)
-  by None i f = absurd cc
-  by (Some y) i f = elim (branched (is_type names y) refuse (skipping (pure y)) ts (Ok x) f) [
-    | inl c ↦ absurd (let no : Err ts ≡ Ok x = c.1 in cc)
-    | inr c ↦
-        subst (λ (z : Name × List Token). (is_type names z.0 ≡ false) × NextKind (kind.Identifier z.0) ts × (skip ts ≡ z.1)) (ok_is (y, skip ts) x c.1)
-        (c.0, ident_next y ts i, refl)
-  ]
+    by : (y : Option Name) → next_ident ts ≡ y → id_by names y ts ≡ Ok x → (is_type names x.0 ≡ false) × NextKind (kind.Identifier x.0) ts × (skip ts ≡ x.1)
+    by None i f = absurd cc
+    by (Some y) i f = elim (branched (is_type names y) refuse (skipping (pure y)) ts (Ok x) f) [
+      | inl c ↦ absurd (let no : Err ts ≡ Ok x = c.1 in cc)
+      | inr c ↦
+          subst (λ (z : Name × List Token). (is_type names z.0 ≡ false) × NextKind (kind.Identifier z.0) ts × (skip ts ≡ z.1)) (ok_is (y, skip ts) x c.1)
+          (c.0, ident_next y ts i, refl)
+    ]
 
 pub id_reads : (names : Names) (n : Option Spot) (o : Outline) (d : ℕ) (ts r : List Token) (x : Name × List Token) → id names ts ≡ Ok x → Stands n (spot ts) → Reads o d x.1 r → Reads (identifier names n x.0 o) d ts r
 id_reads names n o d ts r x e at rest =

@@ -83,9 +83,16 @@ module _ (names : Names) (inner : Inner) (d : ℕ) (good : SoundInner names inne
       let u = good.expr 1 (omega arith) (skip ts) y.0 y.1 in
       let v = good.expr 3 (omega arith) c.0.1 z.0 z.1 in
       let other : Outline = o.operand 3 z.0.0 (o.expr names z.0.0) ▸ end in
-      subst (Made 3 first) z.2
-      (omega arith, (ts, l, a, behind (kind.Punct p.Question) (Some n) (o.operand 1 y.0.0 (o.expr names y.0.0) ▸ o.sign p.Colon ▸ other) ts z.0.1 (ap tail_token t) refl
-      (y.0.1, u.0, u.1, take_reads p.Colon other d y.0.1 z.0.1 c.0 c.1 (z.0.1, v.0, v.1, refl))))
+      subst (Made 3 first) z.2 (
+        omega arith,
+        (
+          ts,
+          l,
+          a,
+          behind (kind.Punct p.Question) (Some n) (o.operand 1 y.0.0 (o.expr names y.0.0) ▸ o.sign p.Colon ▸ other) ts z.0.1 (ap tail_token t) refl
+              (y.0.1, u.0, u.1, take_reads p.Colon other d y.0.1 z.0.1 c.0 c.1 (z.0.1, v.0, v.1, refl)),
+        ),
+      )
 
   index_sound : (left : ExprTree Spot) (first ts : List Token) (x : ExprTree Spot × List Token) → tail ts ≡ goes_index → 16 ≤ level left → ReadsExpr names d left first ts
       → r.go_on names inner (suc d) left goes_index (spot ts) (skip ts) ≡ Ok x → Made 16 first x
@@ -94,9 +101,16 @@ module _ (names : Names) (inner : Inner) (d : ℕ) (good : SoundInner names inne
       let i = bind_ok (inner.expr 1 (skip ts)) (λ i. take p.RightBracket >> pure (index n left i)) x e in
       let c = map_ok (take p.RightBracket i.0.1) (λ z. index n left i.0.0) x i.2 in
       let u = good.expr 1 (omega arith) (skip ts) i.0 i.1 in
-      subst (Made 16 first) c.2
-      (omega arith, (ts, l, a, behind (kind.Punct p.LeftBracket) (Some n) (o.operand 1 i.0.0 (o.expr names i.0.0) ▸ o.sign p.RightBracket ▸ end) ts c.0.1 (ap tail_token t) refl
-      (i.0.1, u.0, u.1, take_reads p.RightBracket end d i.0.1 c.0.1 c.0 c.1 refl)))
+      subst (Made 16 first) c.2 (
+        omega arith,
+        (
+          ts,
+          l,
+          a,
+          behind (kind.Punct p.LeftBracket) (Some n) (o.operand 1 i.0.0 (o.expr names i.0.0) ▸ o.sign p.RightBracket ▸ end) ts c.0.1 (ap tail_token t) refl
+              (i.0.1, u.0, u.1, take_reads p.RightBracket end d i.0.1 c.0.1 c.0 c.1 refl),
+        ),
+      )
 
   go_on_sound : (left : ExprTree Spot) (t : Tail) (first ts : List Token) (x : ExprTree Spot × List Token) → tail ts ≡ t → left_level t ≤ level left → ReadsExpr names d left first ts
       → r.go_on names inner (suc d) left t (spot ts) (skip ts) ≡ Ok x → Made (binds t) first x

@@ -49,13 +49,13 @@ closes_over f n e =
 opening_stands : (f : DeclTree Spot) (n : Spot) → Stands (o.opening_spot f (opening f n)) n
 opening_stands f n = by (o.is_named f) refl
   where
-  by : (b : Bool) → o.is_named f ≡ b → Stands (o.opening_spot f (opening f n)) n
-  by true e =
-      let none : o.opening_spot f (opening f n) ≡ None = rw e refl in
-      subst (λ s. Stands s n) (sym none) tt
-  by false e =
-      let some : o.opening_spot f (opening f n) ≡ Some n = rw e refl in
-      subst (λ s. Stands s n) (sym some) refl
+    by : (b : Bool) → o.is_named f ≡ b → Stands (o.opening_spot f (opening f n)) n
+    by true e =
+        let none : o.opening_spot f (opening f n) ≡ None = rw e refl in
+        subst (λ s. Stands s n) (sym none) tt
+    by false e =
+        let some : o.opening_spot f (opening f n) ≡ Some n = rw e refl in
+        subst (λ s. Stands s n) (sym some) refl
 
 -- ---- Names
 
@@ -127,9 +127,21 @@ module _ (names : Names) (inner : Inner) (d : ℕ) (good : SoundInner names inne
       let n = spot_or left (spot ts) in
       let m = map_ok (r.array_length names inner (suc d) (skip ts)) (array n left) x e in
       let v = array_length_sound (skip ts) m.0 m.1 in
-      subst (Direct names (suc d) mode first) m.2
-      (suits_too mode left (array n left m.0.0) refl a.0, refl, (m.0.1, has_spot left (spot ts), (ts, a.1, a.2,
-      next_reads p.LeftBracket (o.suffix_spot left n) (o.within (o.length_of names m.0.0) ▸ o.sign p.RightBracket ▸ end) d ts m.0.1 c (suffix_stands left (spot ts)) v), refl))
+      subst (Direct names (suc d) mode first) m.2 (
+        suits_too mode left (array n left m.0.0) refl a.0,
+        refl,
+        (
+          m.0.1,
+          has_spot left (spot ts),
+          (
+            ts,
+            a.1,
+            a.2,
+            next_reads p.LeftBracket (o.suffix_spot left n) (o.within (o.length_of names m.0.0) ▸ o.sign p.RightBracket ▸ end) d ts m.0.1 c (suffix_stands left (spot ts)) v,
+          ),
+          refl,
+        ),
+      )
 
   function_sound : (mode : Mode) (left : DeclTree Spot) (first ts : List Token) (x : DeclTree Spot × List Token) → Direct names d mode first (left, ts) → next_is p.LeftParen ts ≡ true
       → ((λ ps. function (spot_or left (spot ts)) left (gathered_types ps)) <$> r.parameters names inner (suc d)) (skip ts) ≡ Ok x → Direct names (suc d) mode first x
@@ -137,9 +149,21 @@ module _ (names : Names) (inner : Inner) (d : ℕ) (good : SoundInner names inne
       let n = spot_or left (spot ts) in
       let m = map_ok (r.parameters names inner (suc d) (skip ts)) (λ ps. function n left (gathered_types ps)) x e in
       let v = parameters_sound names inner d good (skip ts) m.0 m.1 in
-      subst (Direct names (suc d) mode first) m.2
-      (suits_too mode left (function n left (gathered_types m.0.0)) refl a.0, refl, (m.0.1, has_spot left (spot ts), (ts, a.1, a.2,
-      next_reads p.LeftParen (o.suffix_spot left n) (o.within (o.parameters names (gathered_types m.0.0)) ▸ o.sign p.RightParen ▸ end) d ts m.0.1 c (suffix_stands left (spot ts)) v), refl))
+      subst (Direct names (suc d) mode first) m.2 (
+        suits_too mode left (function n left (gathered_types m.0.0)) refl a.0,
+        refl,
+        (
+          m.0.1,
+          has_spot left (spot ts),
+          (
+            ts,
+            a.1,
+            a.2,
+            next_reads p.LeftParen (o.suffix_spot left n) (o.within (o.parameters names (gathered_types m.0.0)) ▸ o.sign p.RightParen ▸ end) d ts m.0.1 c (suffix_stands left (spot ts)) v,
+          ),
+          refl,
+        ),
+      )
 
   suffix_sound : (mode : Mode) (left : DeclTree Spot) (first ts : List Token) (x : DeclTree Spot × List Token) → Direct names d mode first (left, ts) → r.suffix_comes names inner (suc d) ts ≡ true
       → r.suffix names inner (suc d) left ts ≡ Ok x → Direct names (suc d) mode first x
@@ -184,9 +208,16 @@ module _ (names : Names) (inner : Inner) (d : ℕ) (good : SoundInner names inne
             let written : o.is_written a.0.0 ≡ true = subst (λ (y : DeclTree Spot × List Token). o.is_written y.0 ≡ true) same w.0 in
             let m = opening a.0.0 n in
             let inside : Outline = part (o.is_written a.0.0) (o.is_written a.0.0 ≡ true) (o.declarator names a.0.0) (o.sign p.RightParen ▸ end) in
-            subst (Direct names (suc d) mode ts) b.2
-            (suits_too mode a.0.0 (grouped m a.0.0) refl g.0, refl, (b.0.1, closes_over a.0.0 n,
-            next_reads p.LeftParen (o.opening_spot a.0.0 m) inside d ts b.0.1 c (opening_stands a.0.0 n) (a.0.1, written, g.1, take_reads p.RightParen end d a.0.1 b.0.1 b.0 b.1 refl), refl))
+            subst (Direct names (suc d) mode ts) b.2 (
+              suits_too mode a.0.0 (grouped m a.0.0) refl g.0,
+              refl,
+              (
+                b.0.1,
+                closes_over a.0.0 n,
+                next_reads p.LeftParen (o.opening_spot a.0.0 m) inside d ts b.0.1 c (opening_stands a.0.0 n) (a.0.1, written, g.1, take_reads p.RightParen end d a.0.1 b.0.1 b.0 b.1 refl),
+                refl,
+              ),
+            )
         | inr w ↦ absurd (let no : Err f.0.1 ≡ Ok a.0 = w.1 in cc)
       ]
 
@@ -221,9 +252,15 @@ module _ (names : Names) (inner : Inner) (d : ℕ) (good : SoundInner names inne
       let v = good.declarator mode c.0.1 f.0 f.1 in
       let m = opening f.0.0 n in
       let inside : Outline = o.within (o.consts c.0.0) ▸ o.any_one f.0.0 (o.declarator names f.0.0) ▸ end in
-      subst (Found mode ts) f.2
-      (suits_too mode f.0.0 (pointer m c.0.0 f.0.0) refl v.0, (f.0.1, closes_over f.0.0 n,
-      next_reads p.Star (o.opening_spot f.0.0 m) inside d ts f.0.1 s (opening_stands f.0.0 n) (c.0.1, tt, u, (f.0.1, tt, v.1, refl)), refl))
+      subst (Found mode ts) f.2 (
+        suits_too mode f.0.0 (pointer m c.0.0 f.0.0) refl v.0,
+        (
+          f.0.1,
+          closes_over f.0.0 n,
+          next_reads p.Star (o.opening_spot f.0.0 m) inside d ts f.0.1 s (opening_stands f.0.0 n) (c.0.1, tt, u, (f.0.1, tt, v.1, refl)),
+          refl,
+        ),
+      )
 
   pub declarator_sound : (mode : Mode) (ts : List Token) (x : DeclTree Spot × List Token) → r.declarator names inner (suc d) mode ts ≡ Ok x → Found mode ts x
   declarator_sound mode ts x e =

@@ -33,9 +33,9 @@ Literal s ts r = NextKind (kind.Str s) ts × (skip ts ≡ r)
 literal_sound : (names : Names) (inner : Inner) (d : ℕ) → IsSound (λ ts. r.literal_by names inner d (next_literal ts) ts) Literal
 literal_sound names inner d ts x e = by (next_literal ts) refl e
   where
-  by : (y : Option (List ℕ)) → next_literal ts ≡ y → r.literal_by names inner d y ts ≡ Ok x → Literal x.0 ts x.1
-  by None i f = absurd cc
-  by (Some bytes) i f = subst (λ (z : List ℕ × List Token). Literal z.0 ts z.1) (ok_is (bytes, skip ts) x f) (literal_next bytes ts i, refl)
+    by : (y : Option (List ℕ)) → next_literal ts ≡ y → r.literal_by names inner d y ts ≡ Ok x → Literal x.0 ts x.1
+    by None i f = absurd cc
+    by (Some bytes) i f = subst (λ (z : List ℕ × List Token). Literal z.0 ts z.1) (ok_is (bytes, skip ts) x f) (literal_next bytes ts i, refl)
 
 other_strings : (more : List Token → Bool) (ss : List (List ℕ)) (d : ℕ) (ts r : List Token) → Following more Literal ss ts r → Reads (o.strings ss) d ts r
 other_strings more [] d ts r x = x
@@ -47,10 +47,10 @@ literals_sound names inner d e ts x f =
     let more : List Token → Bool = (λ us. r.is_literal names inner d (next_literal us)) in
     some more x.0 (repeated_sound more (λ us. r.literal_by names inner d (next_literal us) us) Literal (literal_sound names inner d) ts x f)
   where
-  some : (more : List Token → Bool) (ss : List (List ℕ)) → Repeated more Literal ss ts x.1 → Reads (o.string_tokens (spot ts) ss) e ts x.1
-  some more [] s = absurd s
-  some more (w ∷ ws) s =
-      kind_reads (Unit {0}) (kind.Str w) (Some (spot ts)) (o.strings ws) e ts x.1 s.1.0 tt refl (subst (λ us. Reads (o.strings ws) e us x.1) (sym s.1.1) (other_strings more ws e s.0 x.1 s.2))
+    some : (more : List Token → Bool) (ss : List (List ℕ)) → Repeated more Literal ss ts x.1 → Reads (o.string_tokens (spot ts) ss) e ts x.1
+    some more [] s = absurd s
+    some more (w ∷ ws) s =
+        kind_reads (Unit {0}) (kind.Str w) (Some (spot ts)) (o.strings ws) e ts x.1 s.1.0 tt refl (subst (λ us. Reads (o.strings ws) e us x.1) (sym s.1.1) (other_strings more ws e s.0 x.1 s.2))
 
 module _ (names : Names) (inner : Inner) (d : ℕ) (good : SoundInner names inner d) where
   abbrev Whole : ℕ → List Token → ExprTree Spot × List Token → Type 0
@@ -69,9 +69,11 @@ module _ (names : Names) (inner : Inner) (d : ℕ) (good : SoundInner names inne
       let u = typed_type names inner d good t.0.0 (skip ts) t.0.1 (typed_sound names inner d good without_name (skip ts) t.0 t.1) in
       let v = good.expr 14 (omega arith) c.0.1 y.0 y.1 in
       let last : Outline = o.operand 14 y.0.0 (o.expr names y.0.0) ▸ end in
-      subst (Whole least ts) y.2
-      (l, opens (kind.Punct p.LeftParen) (o.within (o.type_of names t.0.0) ▸ o.sign p.RightParen ▸ last) ts y.0.1 (ap start_token s)
-      (t.0.1, tt, u, take_reads p.RightParen last d t.0.1 y.0.1 c.0 c.1 (y.0.1, v.0, v.1, refl)))
+      subst (Whole least ts) y.2 (
+        l,
+        opens (kind.Punct p.LeftParen) (o.within (o.type_of names t.0.0) ▸ o.sign p.RightParen ▸ last) ts y.0.1 (ap start_token s)
+            (t.0.1, tt, u, take_reads p.RightParen last d t.0.1 y.0.1 c.0 c.1 (y.0.1, v.0, v.1, refl)),
+      )
 
   paren_sound : (least : ℕ) (ts : List Token) (x : ExprTree Spot × List Token) → start ts ≡ begins_paren → least ≤ 15
       → (inner.expr 1 >>= (λ y. take p.RightParen >> pure (paren (spot ts) y))) (skip ts) ≡ Ok x → Whole least ts x
@@ -79,9 +81,11 @@ module _ (names : Names) (inner : Inner) (d : ℕ) (good : SoundInner names inne
       let y = bind_ok (inner.expr 1 (skip ts)) (λ y. take p.RightParen >> pure (paren (spot ts) y)) x e in
       let c = map_ok (take p.RightParen y.0.1) (λ z. paren (spot ts) y.0.0) x y.2 in
       let v = good.expr 1 (omega arith) (skip ts) y.0 y.1 in
-      subst (Whole least ts) c.2
-      (omega (arith, l), opens (kind.Punct p.LeftParen) (o.operand 1 y.0.0 (o.expr names y.0.0) ▸ o.sign p.RightParen ▸ end) ts c.0.1 (ap start_token s)
-      (y.0.1, v.0, v.1, take_reads p.RightParen end d y.0.1 c.0.1 c.0 c.1 refl))
+      subst (Whole least ts) c.2 (
+        omega (arith, l),
+        opens (kind.Punct p.LeftParen) (o.operand 1 y.0.0 (o.expr names y.0.0) ▸ o.sign p.RightParen ▸ end) ts c.0.1 (ap start_token s)
+            (y.0.1, v.0, v.1, take_reads p.RightParen end d y.0.1 c.0.1 c.0 c.1 refl),
+      )
 
   behind_paren_sound : (least : ℕ) (ts : List Token) (x : ExprTree Spot × List Token) → start ts ≡ begins_paren → least ≤ 15 → r.behind_paren names inner (suc d) least (spot ts) (skip ts) ≡ Ok x → Whole least ts x
   behind_paren_sound least ts x s l e =
@@ -97,9 +101,11 @@ module _ (names : Names) (inner : Inner) (d : ℕ) (good : SoundInner names inne
       let c = map_ok (take p.RightParen t.0.1) (λ z. size_type (spot ts) t.0.0) x t.2 in
       let u = typed_type names inner d good t.0.0 (skip (skip ts)) t.0.1 (typed_sound names inner d good without_name (skip (skip ts)) t.0 t.1) in
       let last : Outline = o.within (o.type_of names t.0.0) ▸ o.sign p.RightParen ▸ end in
-      subst (Whole least ts) c.2
-      (l, opens (kind.Keyword k.Sizeof) (o.sign p.LeftParen ▸ last) ts c.0.1 (ap start_token s)
-      (next_reads p.LeftParen None last d (skip ts) c.0.1 opening tt (t.0.1, tt, u, take_reads p.RightParen end d t.0.1 c.0.1 c.0 c.1 refl)))
+      subst (Whole least ts) c.2 (
+        l,
+        opens (kind.Keyword k.Sizeof) (o.sign p.LeftParen ▸ last) ts c.0.1 (ap start_token s)
+            (next_reads p.LeftParen None last d (skip ts) c.0.1 opening tt (t.0.1, tt, u, take_reads p.RightParen end d t.0.1 c.0.1 c.0 c.1 refl)),
+      )
 
   behind_sizeof_sound : (least : ℕ) (ts : List Token) (x : ExprTree Spot × List Token) → start ts ≡ begins_sizeof → least ≤ 15 → r.behind_sizeof names inner (suc d) (spot ts) (skip ts) ≡ Ok x → Whole least ts x
   behind_sizeof_sound least ts x s l e =

@@ -69,11 +69,11 @@ module _ (names : Names) (inner : Inner) (d : ℕ) (members_sound : MembersSound
   tag_sound : (ts : List Token) (x : Option Name × List Token) → r.tag names inner d ts ≡ Ok x → Reads (o.tag_of x.0) d ts x.1
   tag_sound ts x e = by (next_ident ts) refl e
     where
-    by : (y : Option Name) → next_ident ts ≡ y → r.tag_by names inner d y ts ≡ Ok x → Reads (o.tag_of x.0) d ts x.1
-    by None i f = subst (λ (z : Option Name × List Token). Reads (o.tag_of z.0) d ts z.1) (ok_is (None, ts) x f) refl
-    by (Some y) i f =
-        subst (λ (z : Option Name × List Token). Reads (o.tag_of z.0) d ts z.1) (ok_is (Some y, skip ts) x f)
-        (kind_reads (Unit {0}) (kind.Identifier y) None end d ts (skip ts) (ident_next y ts i) tt tt refl)
+      by : (y : Option Name) → next_ident ts ≡ y → r.tag_by names inner d y ts ≡ Ok x → Reads (o.tag_of x.0) d ts x.1
+      by None i f = subst (λ (z : Option Name × List Token). Reads (o.tag_of z.0) d ts z.1) (ok_is (None, ts) x f) refl
+      by (Some y) i f =
+          subst (λ (z : Option Name × List Token). Reads (o.tag_of z.0) d ts z.1) (ok_is (Some y, skip ts) x f)
+          (kind_reads (Unit {0}) (kind.Identifier y) None end d ts (skip ts) (ident_next y ts i) tt tt refl)
 
   -- behind a keyword
   struct_sound : (ts : List Token) (x : SpecTree Spot × List Token) → spec_start names ts ≡ spec_struct → r.spec_by names inner d spec_struct (spot ts) ts ≡ Ok x → SpecAt x.0 ts x.1
@@ -87,14 +87,26 @@ module _ (names : Names) (inner : Inner) (d : ℕ) (members_sound : MembersSound
             let m = map_ok (r.member_list names inner d t.0.1) (λ ms. struct n t.0.0 (gathered_members ms)) x c.1 in
             let v = members_sound t.0.1 m.0 m.1 in
             let inside : Outline = o.within (o.tag_of t.0.0) ▸ o.within (o.member_list names (gathered_members m.0.0)) ▸ end in
-            subst (λ (y : SpecTree Spot × List Token). SpecAt y.0 ts y.1) m.2
-            (refl, (m.0.1, struct_with_members n t.0.0 (gathered_members m.0.0) v.0,
-            opens (Unit {0}) (kind.Keyword k.Struct) inside ts m.0.1 (ap spec_token s) tt (t.0.1, tt, u, (m.0.1, tt, v.1, refl)), refl))
+            subst (λ (y : SpecTree Spot × List Token). SpecAt y.0 ts y.1) m.2 (
+              refl,
+              (
+                m.0.1,
+                struct_with_members n t.0.0 (gathered_members m.0.0) v.0,
+                opens (Unit {0}) (kind.Keyword k.Struct) inside ts m.0.1 (ap spec_token s) tt (t.0.1, tt, u, (m.0.1, tt, v.1, refl)),
+                refl,
+              ),
+            )
         | inr c ↦
             let inside : Outline = o.within (o.tag_of t.0.0) ▸ o.within (o.member_list names no_members) ▸ end in
-            subst (λ (y : SpecTree Spot × List Token). SpecAt y.0 ts y.1) (ok_is (struct n t.0.0 no_members, t.0.1) x c.1)
-            (refl, (t.0.1, struct_with_tag names inner d n t.0.0 (or_parts (next_is p.LeftBrace t.0.1) (r.untagged names inner d t.0.0) c.0).1,
-            opens (Unit {0}) (kind.Keyword k.Struct) inside ts t.0.1 (ap spec_token s) tt (t.0.1, tt, u, (t.0.1, tt, refl, refl)), refl))
+            subst (λ (y : SpecTree Spot × List Token). SpecAt y.0 ts y.1) (ok_is (struct n t.0.0 no_members, t.0.1) x c.1) (
+              refl,
+              (
+                t.0.1,
+                struct_with_tag names inner d n t.0.0 (or_parts (next_is p.LeftBrace t.0.1) (r.untagged names inner d t.0.0) c.0).1,
+                opens (Unit {0}) (kind.Keyword k.Struct) inside ts t.0.1 (ap spec_token s) tt (t.0.1, tt, u, (t.0.1, tt, refl, refl)),
+                refl,
+              ),
+            )
       ]
 
   enum_sound : (ts : List Token) (x : SpecTree Spot × List Token) → spec_start names ts ≡ spec_enum → r.spec_by names inner d spec_enum (spot ts) ts ≡ Ok x → SpecAt x.0 ts x.1
@@ -108,14 +120,26 @@ module _ (names : Names) (inner : Inner) (d : ℕ) (members_sound : MembersSound
             let m = map_ok (r.constant_list names inner d t.0.1) (λ cs. enum n t.0.0 (gathered_constants cs.0) cs.1) x c.1 in
             let v = constants_sound t.0.1 m.0 m.1 in
             let inside : Outline = o.within (o.tag_of t.0.0) ▸ o.within (o.constant_list names (gathered_constants m.0.0.0) m.0.0.1) ▸ end in
-            subst (λ (y : SpecTree Spot × List Token). SpecAt y.0 ts y.1) m.2
-            (refl, (m.0.1, enum_with_constants n t.0.0 (gathered_constants m.0.0.0) m.0.0.1 v.0,
-            opens (Unit {0}) (kind.Keyword k.Enum) inside ts m.0.1 (ap spec_token s) tt (t.0.1, tt, u, (m.0.1, tt, v.1, refl)), refl))
+            subst (λ (y : SpecTree Spot × List Token). SpecAt y.0 ts y.1) m.2 (
+              refl,
+              (
+                m.0.1,
+                enum_with_constants n t.0.0 (gathered_constants m.0.0.0) m.0.0.1 v.0,
+                opens (Unit {0}) (kind.Keyword k.Enum) inside ts m.0.1 (ap spec_token s) tt (t.0.1, tt, u, (m.0.1, tt, v.1, refl)),
+                refl,
+              ),
+            )
         | inr c ↦
             let inside : Outline = o.within (o.tag_of t.0.0) ▸ o.within (o.constant_list names no_constants false) ▸ end in
-            subst (λ (y : SpecTree Spot × List Token). SpecAt y.0 ts y.1) (ok_is (enum n t.0.0 no_constants false, t.0.1) x c.1)
-            (refl, (t.0.1, enum_with_tag names inner d n t.0.0 (or_parts (next_is p.LeftBrace t.0.1) (r.untagged names inner d t.0.0) c.0).1,
-            opens (Unit {0}) (kind.Keyword k.Enum) inside ts t.0.1 (ap spec_token s) tt (t.0.1, tt, u, (t.0.1, tt, refl, refl)), refl))
+            subst (λ (y : SpecTree Spot × List Token). SpecAt y.0 ts y.1) (ok_is (enum n t.0.0 no_constants false, t.0.1) x c.1) (
+              refl,
+              (
+                t.0.1,
+                enum_with_tag names inner d n t.0.0 (or_parts (next_is p.LeftBrace t.0.1) (r.untagged names inner d t.0.0) c.0).1,
+                opens (Unit {0}) (kind.Keyword k.Enum) inside ts t.0.1 (ap spec_token s) tt (t.0.1, tt, u, (t.0.1, tt, refl, refl)),
+                refl,
+              ),
+            )
       ]
 
   spec_by_sound : (s : SpecStart) (ts : List Token) (x : SpecTree Spot × List Token) → spec_start names ts ≡ s → r.spec_by names inner d s (spot ts) ts ≡ Ok x → SpecAt x.0 ts x.1
