@@ -11,13 +11,13 @@ use Rattle.cc_lex.specs.declared.punct.Punct.TheVariants as p
 use Rattle.cc_syntax.specs.Trees.{Name}
 use Rattle.cc_grammar.specs.Names.{Names, is_type}
 use Rattle.cc_grammar.specs.Levels.{unary_sign, step_sign, binary_sign, assign_sign, spec_keyword}
-use Rattle.cc_grammar.specs.Outline.{Outline, token, Stands}
-use Rattle.cc_grammar.specs.Outlines.{identifier}
+use Rattle.cc_grammar.specs.Outline.{Outline, end, token, Stands}
+use Rattle.cc_grammar.specs.Outlines.{identifier, sign}
 use Rattle.cc_grammar.specs.Classes.{skip, spot, ident, next_ident, literal, next_literal, Start, begins_name, begins_integer, begins_character, begins_string, begins_paren, begins_unary, begins_step, begins_sizeof, begins_nothing, start_sign, start_key, start_kind, start, Tail, goes_binary, goes_assign, goes_question, goes_comma, goes_call, goes_index, goes_dot, goes_arrow, goes_step, ends_here, tail_sign, tail_kind, tail, SpecStart, spec_word, spec_struct, spec_enum, spec_named, no_spec, spec_key, spec_kind, spec_start}
 use Rattle.cc_grammar.specs.Reading.{skipping, id_by, id}
-use Rattle.cc_grammar.specs.Outcomes.{pure, refuse}
+use Rattle.cc_grammar.specs.Outcomes.{pure, refuse, take}
 use Rattle.cc_parse_laws.proofs.Spans.{Reads}
-use Rattle.cc_parse_laws.proofs.Steps.{branched, ok_is}
+use Rattle.cc_parse_laws.proofs.Steps.{branched, ok_is, take_reads}
 
 -- the next token is this one
 abbrev pub NextKind : TokenKind → List Token → Type 0
@@ -28,6 +28,10 @@ NextKind w (t ∷ ts) = t.kind ≡ w
 pub kind_reads : (h : Type 0) (w : TokenKind) (n : Option Spot) (o : Outline) (d : ℕ) (ts r : List Token) → NextKind w ts → h → Stands n (spot ts) → Reads o d (skip ts) r → Reads (token h w n o) d ts r
 kind_reads h w n o d [] r e a s x = absurd e
 kind_reads h w n o d (t ∷ ts) r e a s x = (a, e, s, x)
+
+-- a punctuator that was taken as the last one
+pub take_last : (s : Punct) (d : ℕ) (ts : List Token) (x : Unit {0} × List Token) → take s ts ≡ Ok x → Reads (sign s end) d ts x.1
+take_last s d ts x e = take_reads s end d ts x.1 x e refl
 
 -- the token of a class, if it has one
 abbrev Is : Option TokenKind → TokenKind → Type 0

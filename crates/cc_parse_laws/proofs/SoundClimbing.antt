@@ -25,7 +25,7 @@ use Rattle.cc_grammar.specs.Reading.{Inner, id}
 use Rattle.cc_parse_laws.proofs.Spans.{Inside, Reads, reads_within}
 use Rattle.cc_parse_laws.proofs.Depths.{expr_depth}
 use Rattle.cc_parse_laws.proofs.Steps.{bind_ok, map_ok, ok_is, branched, take_reads}
-use Rattle.cc_parse_laws.proofs.NextTokens.{kind_reads, tail_token, tail_next, id_reads}
+use Rattle.cc_parse_laws.proofs.NextTokens.{take_last, kind_reads, tail_token, tail_next, id_reads}
 use Rattle.cc_parse_laws.proofs.Inner.{ReadsExpr, SoundInner}
 use Rattle.cc_parse_laws.proofs.SoundTypes.{arguments_sound}
 
@@ -83,7 +83,7 @@ module _ (names : Names) (inner : Inner) (d : ℕ) (good : SoundInner names inne
       let u = good.expr 1 (omega arith) (skip ts) y.0 y.1 in
       let v = good.expr 3 (omega arith) c.0.1 z.0 z.1 in
       let other : Outline = o.operand 3 z.0.0 (o.expr names z.0.0) ▸ end in
-      subst (Made 3 first) z.2 (
+      subst (Made 3 first) {x = (choice n left y.0.0 z.0.0, z.0.1)} z.2 (
         omega arith,
         (
           ts,
@@ -101,14 +101,14 @@ module _ (names : Names) (inner : Inner) (d : ℕ) (good : SoundInner names inne
       let i = bind_ok (inner.expr 1 (skip ts)) (λ i. take p.RightBracket >> pure (index n left i)) x e in
       let c = map_ok (take p.RightBracket i.0.1) (λ z. index n left i.0.0) x i.2 in
       let u = good.expr 1 (omega arith) (skip ts) i.0 i.1 in
-      subst (Made 16 first) c.2 (
+      subst (Made 16 first) {x = (index n left i.0.0, c.0.1)} c.2 (
         omega arith,
         (
           ts,
           l,
           a,
           behind (kind.Punct p.LeftBracket) (Some n) (o.operand 1 i.0.0 (o.expr names i.0.0) ▸ o.sign p.RightBracket ▸ end) ts c.0.1 (ap tail_token t) refl
-              (i.0.1, u.0, u.1, take_reads p.RightBracket end d i.0.1 c.0.1 c.0 c.1 refl),
+              (i.0.1, u.0, u.1, take_last p.RightBracket d i.0.1 c.0 c.1),
         ),
       )
 

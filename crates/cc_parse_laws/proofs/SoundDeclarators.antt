@@ -17,15 +17,15 @@ use Rattle.cc_grammar.specs.Reading as r
 use Rattle.cc_grammar.specs.Reading.{Inner, Mode, with_name, without_name, with_or_without, wants_name, takes_name, spot_or, opening, id, placed, skipping, where_next, opposite}
 use Rattle.cc_parse_laws.proofs.Spans.{Reads}
 use Rattle.cc_parse_laws.proofs.Depths.{declarator_depth}
-use Rattle.cc_parse_laws.proofs.Steps.{bind_ok, map_ok, ok_is, branched, next_reads, next_key_reads, take_reads}
-use Rattle.cc_parse_laws.proofs.NextTokens.{id_reads}
+use Rattle.cc_parse_laws.proofs.Steps.{bind_ok, map_ok, ok_is, branched, next_reads, next_key_reads}
+use Rattle.cc_parse_laws.proofs.NextTokens.{take_last, id_reads}
 use Rattle.cc_parse_laws.proofs.Inner.{ReadsDeclarator, Suits, SoundInner}
 use Rattle.cc_parse_laws.proofs.SoundTypes.{parameters_sound}
 use Rattle.cc_parse_laws.proofs.SoundClimbing.{sinks}
 
 -- ---- Spots
 
-has_spot : (f : DeclTree Spot) (n : Spot) → o.HasSpot f (spot_or f n)
+pub has_spot : (f : DeclTree Spot) (n : Spot) → o.HasSpot f (spot_or f n)
 has_spot (declared m x) n = refl
 has_spot nameless n = tt
 has_spot (pointer m c f) n = refl
@@ -64,6 +64,12 @@ suits_too : (mode : Mode) (f g : DeclTree Spot) → o.is_named g ≡ o.is_named 
 suits_too with_name f g e s = e ∙ s
 suits_too without_name f g e s = e ∙ s
 suits_too with_or_without f g e s = tt
+
+suits_pointer : (mode : Mode) (n : Spot) (c : ℕ) (f : DeclTree Spot) → Suits mode f → Suits mode (pointer n c f)
+suits_pointer mode n c f s = suits_too mode f (pointer n c f) refl s
+
+suits_grouped : (mode : Mode) (n : Spot) (f : DeclTree Spot) → Suits mode f → Suits mode (grouped n f)
+suits_grouped mode n f s = suits_too mode f (grouped n f) refl s
 
 suits_named : (mode : Mode) (f : DeclTree Spot) → takes_name mode ≡ true → o.is_named f ≡ true → Suits mode f
 suits_named with_name f e s = s
@@ -118,7 +124,7 @@ module _ (names : Names) (inner : Inner) (d : ℕ) (good : SoundInner names inne
             let b = map_ok (take p.RightBracket y.0.1) (λ z. an_expr y.0.0) x y.2 in
             let v = good.expr 3 (omega arith) ts y.0 y.1 in
             subst (λ (y : ExprOption Spot × List Token). Reads (o.within (o.length_of names y.0) ▸ o.sign p.RightBracket ▸ end) d ts y.1) b.2
-            (y.0.1, tt, (y.0.1, v.0, v.1, refl), take_reads p.RightBracket end d y.0.1 b.0.1 b.0 b.1 refl)
+            (y.0.1, tt, (y.0.1, v.0, v.1, refl), take_last p.RightBracket d y.0.1 b.0 b.1)
       ]
 
   array_sound : (mode : Mode) (left : DeclTree Spot) (first ts : List Token) (x : DeclTree Spot × List Token) → Direct names d mode first (left, ts) → next_is p.LeftBracket ts ≡ true
@@ -208,13 +214,13 @@ module _ (names : Names) (inner : Inner) (d : ℕ) (good : SoundInner names inne
             let written : o.is_written a.0.0 ≡ true = subst (λ (y : DeclTree Spot × List Token). o.is_written y.0 ≡ true) same w.0 in
             let m = opening a.0.0 n in
             let inside : Outline = part (o.is_written a.0.0) (o.is_written a.0.0 ≡ true) (o.declarator names a.0.0) (o.sign p.RightParen ▸ end) in
-            subst (Direct names (suc d) mode ts) b.2 (
-              suits_too mode a.0.0 (grouped m a.0.0) refl g.0,
+            subst (Direct names (suc d) mode ts) {x = (grouped m a.0.0, b.0.1)} b.2 (
+              suits_grouped mode m a.0.0 g.0,
               refl,
               (
                 b.0.1,
                 closes_over a.0.0 n,
-                next_reads p.LeftParen (o.opening_spot a.0.0 m) inside d ts b.0.1 c (opening_stands a.0.0 n) (a.0.1, written, g.1, take_reads p.RightParen end d a.0.1 b.0.1 b.0 b.1 refl),
+                next_reads p.LeftParen (o.opening_spot a.0.0 m) inside d ts b.0.1 c (opening_stands a.0.0 n) (a.0.1, written, g.1, take_last p.RightParen d a.0.1 b.0 b.1),
                 refl,
               ),
             )
@@ -252,8 +258,8 @@ module _ (names : Names) (inner : Inner) (d : ℕ) (good : SoundInner names inne
       let v = good.declarator mode c.0.1 f.0 f.1 in
       let m = opening f.0.0 n in
       let inside : Outline = o.within (o.consts c.0.0) ▸ o.any_one f.0.0 (o.declarator names f.0.0) ▸ end in
-      subst (Found mode ts) f.2 (
-        suits_too mode f.0.0 (pointer m c.0.0 f.0.0) refl v.0,
+      subst (Found mode ts) {x = (pointer m c.0.0 f.0.0, f.0.1)} f.2 (
+        suits_pointer mode m c.0.0 f.0.0 v.0,
         (
           f.0.1,
           closes_over f.0.0 n,

@@ -19,7 +19,7 @@ use Rattle.cc_grammar.specs.Reading as r
 use Rattle.cc_grammar.specs.Reading.{Inner, id, where_next, skipping, without_name}
 use Rattle.cc_parse_laws.proofs.Spans.{Reads}
 use Rattle.cc_parse_laws.proofs.Steps.{bind_ok, map_ok, ok_is, branched, next_reads, take_reads}
-use Rattle.cc_parse_laws.proofs.NextTokens.{NextKind, kind_reads, start_token, start_next, literal_next, id_reads}
+use Rattle.cc_parse_laws.proofs.NextTokens.{take_last, NextKind, kind_reads, start_token, start_next, literal_next, id_reads}
 use Rattle.cc_parse_laws.proofs.Lists.{IsSound, Following, Repeated, repeated_sound}
 use Rattle.cc_parse_laws.proofs.Inner.{SoundInner}
 use Rattle.cc_parse_laws.proofs.SoundTypes.{typed_sound, typed_type}
@@ -69,7 +69,7 @@ module _ (names : Names) (inner : Inner) (d : ℕ) (good : SoundInner names inne
       let u = typed_type names inner d good t.0.0 (skip ts) t.0.1 (typed_sound names inner d good without_name (skip ts) t.0 t.1) in
       let v = good.expr 14 (omega arith) c.0.1 y.0 y.1 in
       let last : Outline = o.operand 14 y.0.0 (o.expr names y.0.0) ▸ end in
-      subst (Whole least ts) y.2 (
+      subst (Whole least ts) {x = (cast (spot ts) t.0.0 y.0.0, y.0.1)} y.2 (
         l,
         opens (kind.Punct p.LeftParen) (o.within (o.type_of names t.0.0) ▸ o.sign p.RightParen ▸ last) ts y.0.1 (ap start_token s)
             (t.0.1, tt, u, take_reads p.RightParen last d t.0.1 y.0.1 c.0 c.1 (y.0.1, v.0, v.1, refl)),
@@ -81,10 +81,10 @@ module _ (names : Names) (inner : Inner) (d : ℕ) (good : SoundInner names inne
       let y = bind_ok (inner.expr 1 (skip ts)) (λ y. take p.RightParen >> pure (paren (spot ts) y)) x e in
       let c = map_ok (take p.RightParen y.0.1) (λ z. paren (spot ts) y.0.0) x y.2 in
       let v = good.expr 1 (omega arith) (skip ts) y.0 y.1 in
-      subst (Whole least ts) c.2 (
+      subst (Whole least ts) {x = (paren (spot ts) y.0.0, c.0.1)} c.2 (
         omega (arith, l),
         opens (kind.Punct p.LeftParen) (o.operand 1 y.0.0 (o.expr names y.0.0) ▸ o.sign p.RightParen ▸ end) ts c.0.1 (ap start_token s)
-            (y.0.1, v.0, v.1, take_reads p.RightParen end d y.0.1 c.0.1 c.0 c.1 refl),
+            (y.0.1, v.0, v.1, take_last p.RightParen d y.0.1 c.0 c.1),
       )
 
   behind_paren_sound : (least : ℕ) (ts : List Token) (x : ExprTree Spot × List Token) → start ts ≡ begins_paren → least ≤ 15 → r.behind_paren names inner (suc d) least (spot ts) (skip ts) ≡ Ok x → Whole least ts x
@@ -101,10 +101,10 @@ module _ (names : Names) (inner : Inner) (d : ℕ) (good : SoundInner names inne
       let c = map_ok (take p.RightParen t.0.1) (λ z. size_type (spot ts) t.0.0) x t.2 in
       let u = typed_type names inner d good t.0.0 (skip (skip ts)) t.0.1 (typed_sound names inner d good without_name (skip (skip ts)) t.0 t.1) in
       let last : Outline = o.within (o.type_of names t.0.0) ▸ o.sign p.RightParen ▸ end in
-      subst (Whole least ts) c.2 (
+      subst (Whole least ts) {x = (size_type (spot ts) t.0.0, c.0.1)} c.2 (
         l,
         opens (kind.Keyword k.Sizeof) (o.sign p.LeftParen ▸ last) ts c.0.1 (ap start_token s)
-            (next_reads p.LeftParen None last d (skip ts) c.0.1 opening tt (t.0.1, tt, u, take_reads p.RightParen end d t.0.1 c.0.1 c.0 c.1 refl)),
+            (next_reads p.LeftParen None last d (skip ts) c.0.1 opening tt (t.0.1, tt, u, take_last p.RightParen d t.0.1 c.0 c.1)),
       )
 
   behind_sizeof_sound : (least : ℕ) (ts : List Token) (x : ExprTree Spot × List Token) → start ts ≡ begins_sizeof → least ≤ 15 → r.behind_sizeof names inner (suc d) (spot ts) (skip ts) ≡ Ok x → Whole least ts x

@@ -3,7 +3,7 @@ use Rattle.std.proofs.Common.{◌≡◌, refl, ℕ, suc, Bool, true, false, List
 use Rattle.cc_tree.specs.declared.place.Spot.{Spot}
 use Rattle.cc_lex.specs.declared.token.Token.{Token}
 use Rattle.cc_lex.specs.declared.punct.Punct.TheVariants as p
-use Rattle.cc_syntax.specs.Trees.{ExprOption, no_expr, an_expr, MemberTree, members, ConstantTree, constant, DeclTree}
+use Rattle.cc_syntax.specs.Trees.{SpecTrees, ExprOption, no_expr, an_expr, MemberTree, members, ConstantTree, constant, DeclTree}
 use Rattle.cc_syntax.specs.Views.{gathered_members, gathered_constants, gathered_declarators}
 use Rattle.cc_grammar.specs.Names.{Names}
 use Rattle.cc_grammar.specs.Outline.{Outline, end, ◌▸◌}
@@ -13,8 +13,8 @@ use Rattle.cc_grammar.specs.Outcomes.{Parser, take, ◌>>=◌, ◌>>◌, pure, �
 use Rattle.cc_grammar.specs.Reading as r
 use Rattle.cc_grammar.specs.Reading.{Inner, no_inner, id, skipping, with_name, separated, repeated, enclosed}
 use Rattle.cc_parse_laws.proofs.Spans.{Reads}
-use Rattle.cc_parse_laws.proofs.Steps.{bind_ok, map_ok, ok_is, branched, next_reads, take_ok, take_reads}
-use Rattle.cc_parse_laws.proofs.NextTokens.{id_reads}
+use Rattle.cc_parse_laws.proofs.Steps.{bind_ok, map_ok, ok_is, branched, next_reads, take_ok}
+use Rattle.cc_parse_laws.proofs.NextTokens.{take_last, id_reads}
 use Rattle.cc_parse_laws.proofs.Lists.{Span, Others, Separated, separated_sound, Enclosed, enclosed_sound, Following, Repeated, repeated_sound}
 use Rattle.cc_parse_laws.proofs.Inner.{ReadsDeclarator, SoundInner}
 use Rattle.cc_parse_laws.proofs.SoundSpecifiers.{HasMembers, HasConstants, MembersSound, ConstantsSound}
@@ -43,6 +43,12 @@ module _ (names : Names) (inner : Inner) (d : ℕ) (good : SoundInner names inne
   abbrev Line : MemberTree Spot → List Token → List Token → Type 0
   Line m ts r = Reads (o.member_line names m) d ts r
 
+  line_reads : (n : Spot) (ss : SpecTrees Spot) (fs : List (DeclTree Spot)) (ts m u r : List Token) → o.BeginAt ss n → Reads (o.specs names ss) d ts m → Separated Named fs m u → Reads (o.sign p.Semicolon ▸ end) d u r
+      → Line (members n ss (gathered_declarators fs)) ts r
+  line_reads n ss fs ts m u r b x y z =
+      let v = some_declarators fs m u y in
+      (r, b, (m, tt, x, (u, v.0, v.1, z)), refl)
+
   member_line_sound : (ts : List Token) (x : MemberTree Spot × List Token) → r.member_line names inner (suc d) ts ≡ Ok x → Line x.0 ts x.1
   member_line_sound ts x e =
       let n = spot ts in
@@ -50,9 +56,9 @@ module _ (names : Names) (inner : Inner) (d : ℕ) (good : SoundInner names inne
       let fs = bind_ok (separated (inner.declarator with_name) ss.0.1) (λ fs. take p.Semicolon >> pure (members n ss.0.0 (gathered_declarators fs))) x ss.2 in
       let c = map_ok (take p.Semicolon fs.0.1) (λ z. members n ss.0.0 (gathered_declarators fs.0.0)) x fs.2 in
       let u = good.specs ts ss.0 ss.1 in
-      let v = some_declarators fs.0.0 ss.0.1 fs.0.1 (separated_sound (inner.declarator with_name) Named (good.declarator with_name) ss.0.1 fs.0 fs.1) in
-      subst (λ (y : MemberTree Spot × List Token). Line y.0 ts y.1) c.2
-      (c.0.1, u.0, (ss.0.1, tt, u.1, (fs.0.1, v.0, v.1, take_reads p.Semicolon end d fs.0.1 c.0.1 c.0 c.1 refl)), refl)
+      let v = separated_sound (inner.declarator with_name) Named (good.declarator with_name) ss.0.1 fs.0 fs.1 in
+      subst (λ (y : MemberTree Spot × List Token). Line y.0 ts y.1) {x = (members n ss.0.0 (gathered_declarators fs.0.0), c.0.1)} c.2
+      (line_reads n ss.0.0 fs.0.0 ts ss.0.1 fs.0.1 c.0.1 u.0 u.1 v (take_last p.Semicolon d fs.0.1 c.0 c.1))
 
   other_lines : (more : List Token → Bool) (ms : List (MemberTree Spot)) (ts r : List Token) → Following more Line ms ts r → Reads (o.member_lines names (gathered_members ms)) d ts r
   other_lines more [] ts r x = x
@@ -78,8 +84,8 @@ module _ (names : Names) (inner : Inner) (d : ℕ) (good : SoundInner names inne
             let b = map_ok (take p.RightBrace ms.0.1) (λ z. ms.0.0) x ms.2 in
             let t = take_ok p.LeftBrace ts a.0 a.1 in
             let s = repeated_sound more line Line member_line_sound a.0.1 ms.0 a.2 in
-            subst (λ (y : List (MemberTree Spot) × List Token). HasMembers (gathered_members y.0) × Reads (o.member_list names (gathered_members y.0)) (suc d) ts y.1) b.2
-            (lines_in_braces more ms.0.0 ts ms.0.1 b.0.1 t.0 (subst (λ us. Repeated more Line ms.0.0 us ms.0.1) (sym t.1) s) (take_reads p.RightBrace end d ms.0.1 b.0.1 b.0 b.1 refl))
+            subst (λ (y : List (MemberTree Spot) × List Token). HasMembers (gathered_members y.0) × Reads (o.member_list names (gathered_members y.0)) (suc d) ts y.1) {x = (ms.0.0, b.0.1)} b.2
+            (lines_in_braces more ms.0.0 ts ms.0.1 b.0.1 t.0 (subst (λ us. Repeated more Line ms.0.0 us ms.0.1) (sym t.1) s) (take_last p.RightBrace d ms.0.1 b.0 b.1))
       ]
 
   -- ---- Constants
@@ -103,7 +109,7 @@ module _ (names : Names) (inner : Inner) (d : ℕ) (good : SoundInner names inne
       let y = bind_ok (id names ts) (λ y. constant (spot ts) y <$> r.constant_value names inner (suc d)) x e in
       let v = map_ok (r.constant_value names inner (suc d) y.0.1) (constant (spot ts) y.0.0) x y.2 in
       let u = constant_value_sound y.0.1 v.0 v.1 in
-      subst (λ (z : ConstantTree Spot × List Token). One z.0 ts z.1) v.2
+      subst (λ (z : ConstantTree Spot × List Token). One z.0 ts z.1) {x = (constant (spot ts) y.0.0 v.0.0, v.0.1)} v.2
       (id_reads names (Some (spot ts)) (o.within (o.constant_value names v.0.0) ▸ end) d ts v.0.1 y.0 y.1 refl (v.0.1, tt, u, refl))
 
   other_constants : (cs : List (ConstantTree Spot)) (ts r : List Token) → Others One cs ts r → Reads (o.more_constants_of names (gathered_constants cs)) d ts r

@@ -87,7 +87,7 @@ module _ (names : Names) (inner : Inner) (d : ℕ) (members_sound : MembersSound
             let m = map_ok (r.member_list names inner d t.0.1) (λ ms. struct n t.0.0 (gathered_members ms)) x c.1 in
             let v = members_sound t.0.1 m.0 m.1 in
             let inside : Outline = o.within (o.tag_of t.0.0) ▸ o.within (o.member_list names (gathered_members m.0.0)) ▸ end in
-            subst (λ (y : SpecTree Spot × List Token). SpecAt y.0 ts y.1) m.2 (
+            subst (λ (y : SpecTree Spot × List Token). SpecAt y.0 ts y.1) {x = (struct n t.0.0 (gathered_members m.0.0), m.0.1)} m.2 (
               refl,
               (
                 m.0.1,
@@ -120,7 +120,7 @@ module _ (names : Names) (inner : Inner) (d : ℕ) (members_sound : MembersSound
             let m = map_ok (r.constant_list names inner d t.0.1) (λ cs. enum n t.0.0 (gathered_constants cs.0) cs.1) x c.1 in
             let v = constants_sound t.0.1 m.0 m.1 in
             let inside : Outline = o.within (o.tag_of t.0.0) ▸ o.within (o.constant_list names (gathered_constants m.0.0.0) m.0.0.1) ▸ end in
-            subst (λ (y : SpecTree Spot × List Token). SpecAt y.0 ts y.1) m.2 (
+            subst (λ (y : SpecTree Spot × List Token). SpecAt y.0 ts y.1) {x = (enum n t.0.0 (gathered_constants m.0.0.0) m.0.0.1, m.0.1)} m.2 (
               refl,
               (
                 m.0.1,

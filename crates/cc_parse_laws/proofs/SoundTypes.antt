@@ -14,7 +14,8 @@ use Rattle.cc_grammar.specs.Outcomes.{take, ◌>>=◌, ◌>>◌, pure, ◌<$>◌
 use Rattle.cc_grammar.specs.Reading as r
 use Rattle.cc_grammar.specs.Reading.{Inner, Mode, without_name, with_or_without, separated, skipping}
 use Rattle.cc_parse_laws.proofs.Spans.{Reads}
-use Rattle.cc_parse_laws.proofs.Steps.{bind_ok, map_ok, ok_is, branched, next_reads, take_reads}
+use Rattle.cc_parse_laws.proofs.Steps.{bind_ok, map_ok, ok_is, branched, next_reads}
+use Rattle.cc_parse_laws.proofs.NextTokens.{take_last}
 use Rattle.cc_parse_laws.proofs.Lists.{Separated, Others, separated_sound}
 use Rattle.cc_parse_laws.proofs.Inner.{ReadsExpr, ReadsDeclarator, Suits, SoundInner}
 
@@ -60,7 +61,7 @@ module _ (names : Names) (inner : Inner) (d : ℕ) (good : SoundInner names inne
             let t = map_ok (take p.RightParen us.0.1) (λ z. us.0.0) x us.2 in
             let s = separated_sound (r.typed names inner (suc d) with_or_without) (Typed with_or_without) (typed_sound with_or_without) ts us.0 us.1 in
             subst (λ (y : List (TypeTree Spot) × List Token). Reads (o.within (o.parameters names (gathered_types y.0)) ▸ o.sign p.RightParen ▸ end) d ts y.1) t.2
-            (us.0.1, tt, some_parameters us.0.0 ts us.0.1 s, take_reads p.RightParen end d us.0.1 t.0.1 t.0 t.1 refl)
+            (us.0.1, tt, some_parameters us.0.0 ts us.0.1 s, take_last p.RightParen d us.0.1 t.0 t.1)
       ]
 
   -- ---- Arguments
@@ -89,5 +90,5 @@ module _ (names : Names) (inner : Inner) (d : ℕ) (good : SoundInner names inne
             let t = map_ok (take p.RightParen es.0.1) (λ z. es.0.0) x es.2 in
             let s = separated_sound (inner.expr 2) Argument (good.expr 2 (omega arith)) ts es.0 es.1 in
             subst (λ (y : List (ExprTree Spot) × List Token). Reads (o.within (o.arguments names (gathered y.0)) ▸ o.sign p.RightParen ▸ end) d ts y.1) t.2
-            (es.0.1, tt, some_arguments es.0.0 ts es.0.1 s, take_reads p.RightParen end d es.0.1 t.0.1 t.0 t.1 refl)
+            (es.0.1, tt, some_arguments es.0.0 ts es.0.1 s, take_last p.RightParen d es.0.1 t.0 t.1)
       ]
