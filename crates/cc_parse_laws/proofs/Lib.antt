@@ -1,5 +1,14 @@
 pub mod Depths
+pub mod ExprSpots
 pub mod Inner
 pub mod Lists
+pub mod NextTokens
+pub mod SoundClimbing
+pub mod SoundDeclarators
+pub mod SoundExpressions
+pub mod SoundLists
+pub mod SoundReaders
+pub mod SoundSpecifiers
+pub mod SoundTypes
 pub mod Spans
 pub mod Steps
