@@ -1,3 +1,4 @@
+pub mod Begins
 pub mod Depths
 pub mod Inner
 pub mod Lists
