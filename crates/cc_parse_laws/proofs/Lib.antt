@@ -3,6 +3,7 @@ pub mod Depths
 pub mod Inner
 pub mod Lists
 pub mod SoundDeclarations
+pub mod SoundFiles
 pub mod SoundStatements
 pub mod SoundValues
 pub mod Spans
