@@ -1,7 +1,10 @@
 pub mod Begins
 pub mod Depths
+pub mod Endings
 pub mod Inner
 pub mod Lists
+pub mod SoundBlocks
+pub mod SoundClauses
 pub mod SoundDeclarations
 pub mod SoundFiles
 pub mod SoundStatements

@@ -14,7 +14,8 @@ use Rattle.cc_parse_laws.proofs.Spans.{Inside, Reads}
 use Rattle.cc_parse_laws.proofs.Steps.{bind_ok, map_ok, ok_is, branched, next_reads, take_ok, take_reads}
 use Rattle.cc_parse_laws.proofs.Lists.{IsSound}
 use Rattle.cc_parse_laws.proofs.Inner.{SoundInner, ReadsDeclarator}
-use Rattle.cc_parse_laws.proofs.SoundValues.{value_sound, given_sound}
+use Rattle.cc_parse_laws.proofs.Endings.{Gives, taken}
+use Rattle.cc_parse_laws.proofs.SoundValues.{given_sound}
 
 -- one declarator or more, each with its initialiser or none
 abbrev pub ReadsInits : Names → Bool → ℕ → List (InitTree Spot) → List Token → List Token → Type 0
@@ -80,7 +81,7 @@ module _ (readers_sound : (names : Names) (d : ℕ) → SoundInner names (reader
       elim (branched (next_is p.Semicolon a.0.1) (skipping (pure (declaration n a.0.0 []))) (rest a.0.0) a.0.1 (Ok x) a.2) [
         | inl c ↦
             let semicolon : Reads (o.sign p.Semicolon ▸ end) d a.0.1 (skip a.0.1) = next_reads p.Semicolon None end d a.0.1 (skip a.0.1) c.0 tt refl in
-            subst (λ (y : DeclarationTree Spot × List Token). ReadsDeclaration names d y.0 ts y.1) (ok_is (declaration n a.0.0 [], skip a.0.1) x c.1)
+            subst (Gives (ReadsDeclaration names d) ts) (ok_is (declaration n a.0.0 [], skip a.0.1) x c.1)
               (specs.0, (a.0.1, tt, specs.1, (a.0.1, tt, refl, semicolon)))
         | inr c ↦
             let s = declares_sound d names n a.0.0 a.0.1 x c.1 in

@@ -17,7 +17,9 @@ use Rattle.cc_parse_laws.proofs.Steps.{bind_ok, map_ok, ok_is, branched, next_re
 use Rattle.cc_parse_laws.proofs.Lists.{IsSound}
 use Rattle.cc_parse_laws.proofs.Inner.{SoundInner, ReadsDeclarator}
 use Rattle.cc_parse_laws.proofs.SoundDeclarations.{inits_sound}
-use Rattle.cc_parse_laws.proofs.SoundStatements.{body_sound, stmt_sound}
+use Rattle.cc_parse_laws.proofs.Endings.{Gives}
+use Rattle.cc_parse_laws.proofs.SoundBlocks.{body_sound}
+use Rattle.cc_parse_laws.proofs.SoundStatements.{stmt_sound}
 
 spot_is : (f : DeclTree Spot) (n : Spot) → o.HasSpot f (spot_or f n)
 spot_is (declared m x) n = refl
@@ -52,14 +54,14 @@ module _ (readers_sound : (names : Names) (d : ℕ) → SoundInner names (reader
         | inl c ↦
             let m = map_ok (body (reads.stmt d) d names ts) (definition (spot_or f n) ss f) x c.1 in
             let s = body_sound readers_sound (reads.stmt d) d (stmt_sound readers_sound d) names ts m.0 m.1 in
-            subst (λ (y : ExternalTree Spot × List Token). ReadsExternal names d y.0 from y.1) m.2
+            subst (Gives (ReadsExternal names d) from) m.2
               (m.0.1, (has_specs ss n at, spot_is f n), (middle, tt, specs, (ts, named, there, (m.0.1, tt, s, refl))), refl)
         | inr c ↦
             let a = bind_ok (inits d (has_typedef ss) names f ts) (λ is. take p.Semicolon >> pure (outer_declaration (declaration n ss is))) x c.1 in
             let s = inits_sound readers_sound d (has_typedef ss) names f middle ts a.0 named there a.1 in
             let m = map_ok (take p.Semicolon a.0.1) (λ z. outer_declaration (declaration n ss a.0.0)) x a.2 in
             let semicolon : Reads (o.sign p.Semicolon ▸ end) d a.0.1 m.0.1 = take_reads p.Semicolon end d a.0.1 m.0.1 m.0 m.1 refl in
-            subst (λ (y : ExternalTree Spot × List Token). ReadsExternal names d y.0 from y.1) m.2
+            subst (Gives (ReadsExternal names d) from) m.2
               (m.0.1, at, (middle, tt, specs, (a.0.1, tt, s, semicolon)), refl)
       ]
 
@@ -72,7 +74,7 @@ module _ (readers_sound : (names : Names) (d : ℕ) → SoundInner names (reader
       elim (branched (next_is p.Semicolon a.0.1) (skipping (pure (outer_declaration (declaration n a.0.0 [])))) (rest a.0.0) a.0.1 (Ok x) a.2) [
         | inl c ↦
             let semicolon : Reads (o.sign p.Semicolon ▸ end) d a.0.1 (skip a.0.1) = next_reads p.Semicolon None end d a.0.1 (skip a.0.1) c.0 tt refl in
-            subst (λ (y : ExternalTree Spot × List Token). ReadsExternal names d y.0 ts y.1) (ok_is (outer_declaration (declaration n a.0.0 []), skip a.0.1) x c.1)
+            subst (Gives (ReadsExternal names d) ts) (ok_is (outer_declaration (declaration n a.0.0 []), skip a.0.1) x c.1)
               (skip a.0.1, specs.0, (a.0.1, tt, specs.1, (a.0.1, tt, refl, semicolon)), refl)
         | inr c ↦
             let f = bind_ok ((readers names d).declarator with_name a.0.1) (external_behind d names n a.0.0) x c.1 in
@@ -84,13 +86,13 @@ module _ (readers_sound : (names : Names) (d : ℕ) → SoundInner names (reader
   externals_by_sound d zero names ts x e = absurd cc
   externals_by_sound d (suc turns) names ts x e =
       elim (branched (ended ts) (pure []) (external d names >>= (λ y. (λ ys. y ∷ ys) <$> externals_by d turns (after_external y names))) ts (Ok x) e) [
-        | inl c ↦ subst (λ (y : List (ExternalTree Spot) × List Token). ReadsAll names d y.0 ts y.1) (ok_is ([], ts) x c.1) (all_read ts c.0, all_read ts c.0)
+        | inl c ↦ subst (Gives (ReadsAll names d) ts) (ok_is ([], ts) x c.1) (all_read ts c.0, all_read ts c.0)
         | inr c ↦
             let a = bind_ok (external d names ts) (λ y. (λ ys. y ∷ ys) <$> externals_by d turns (after_external y names)) x c.1 in
             let first = external_sound d names ts a.0 a.1 in
             let m = map_ok (externals_by d turns (after_external a.0.0 names) a.0.1) (λ ys. a.0.0 ∷ ys) x a.2 in
             let rest = externals_by_sound d turns (after_external a.0.0 names) a.0.1 m.0 m.1 in
-            subst (λ (y : List (ExternalTree Spot) × List Token). ReadsAll names d y.0 ts y.1) m.2 (rest.0, (a.0.1, tt, first, ([], tt, rest.1, refl)))
+            subst (Gives (ReadsAll names d) ts) m.2 (rest.0, (a.0.1, tt, first, ([], tt, rest.1, refl)))
       ]
 
   -- What is read is all of the text, in order and no deeper than the number.

@@ -21,36 +21,9 @@ use Rattle.cc_parse_laws.proofs.Steps.{bind_ok, map_ok, ok_is, branched, next_re
 use Rattle.cc_parse_laws.proofs.Lists.{IsSound}
 use Rattle.cc_parse_laws.proofs.Inner.{SoundInner}
 use Rattle.cc_parse_laws.proofs.Begins.{operand_begins, Opens, opens}
-use Rattle.cc_parse_laws.proofs.SoundDeclarations.{declaration_sound}
-
--- a statement, and no `else` behind it that would belong to it
-pub record ReadsStmt (names : Names) (d : ℕ) (s : StmtTree Spot) (ts r : List Token) : Type 0 where
-  pub there : Reads (o.stmt names s) d ts r
-  pub closed : o.is_open s ≡ true → next_is_key k.Else r ≡ false
-
-abbrev pub ReadsItem : Names → ℕ → ItemTree Spot → List Token → List Token → Type 0
-ReadsItem names d i ts r = Reads (o.item names i) d ts r
-
-abbrev pub ReadsBlock : Names → ℕ → BlockTree Spot → List Token → List Token → Type 0
-ReadsBlock names d b ts r = Reads (o.block_of names b) d ts r
-
--- what is there up to `m` begins an outline that goes on there
-abbrev Begins : (Outline → Outline) → ℕ → List Token → List Token → Type 1
-Begins i d ts m = (j : Outline) (r : List Token) → Reads j d m r → Reads (i j) d ts r
-
--- ---- The last token of a form
-
-taken : {A : Type 0} (s : Punct) (a : A) (d : ℕ) (ts : List Token) (x : A × List Token) → and_then (take s ts) (λ z. pure a) ≡ Ok x → ((a, x.1) ≡ x) × Begins (o.sign s) d ts x.1
-taken {A} s a d ts x e =
-    let m = map_ok (take s ts) (λ z. a) x e in
-    let same : m.0.1 ≡ x.1 = ap (λ (y : A × List Token). y.1) m.2 in
-    (ap (λ us. (a, us)) (sym same) ∙ m.2, λ j r h. take_reads s j d ts r m.0 m.1 (subst (λ us. Reads j d us r) (sym same) h))
-
--- ---- Only a block
-
-only_block_sound : (s : StmtTree Spot) (ts : List Token) (x : BlockTree Spot × List Token) → only_block s ts ≡ Ok x → (s ≡ compound x.0) × (ts ≡ x.1)
-only_block_sound (compound b) ts x e = (cc, cc)
-only_block_sound _ ts x e = absurd cc
+use Rattle.cc_parse_laws.proofs.Endings.{Gives, Leads, taken}
+use Rattle.cc_parse_laws.proofs.SoundClauses.{ReadsClause, ReadsStart, expr_then, condition_sound, clause_sound, start_sound}
+use Rattle.cc_parse_laws.proofs.SoundBlocks.{ReadsStmt, ReadsItem, ReadsBlock, body_sound, items_sound}
 
 -- an `else` behind a closed statement
 else_reads : (h : Type 0) (i : Outline) (d : ℕ) (ts r : List Token) → h → next_is_key k.Else ts ≡ true → Reads i d (skip ts) r → Reads (token h (kind.Keyword k.Else) None i) d ts r
@@ -64,143 +37,10 @@ shut true c h e = absurd (let no : c ≡ false = h refl in cc)
 shut false c h e = refl
 
 module _ (readers_sound : (names : Names) (d : ℕ) → SoundInner names (readers names d) d) where
-  -- an expression and the token behind it
-  expr_then : {A : Type 0} (names : Names) (d least : ℕ) → least ≤ 15 → (s : Punct) (f : ExprTree Spot → A) (ts : List Token) (x : A × List Token) → and_then ((readers names d).expr least ts) (λ e. take s >> pure (f e)) ≡ Ok x
-      → (e : ExprTree Spot) × (m : List Token) × ((f e, x.1) ≡ x) × Begins (λ j. o.operand least e (o.expr names e) ▸ o.sign s ▸ j) d ts x.1 × (o.begins e ≡ spot ts)
-  expr_then names d least l s f ts x e =
-      let a = bind_ok ((readers names d).expr least ts) (λ y. take s >> pure (f y)) x e in
-      let first = (readers_sound names d).expr least l ts a.0 a.1 in
-      let t = taken s (f a.0.0) d a.0.1 x a.2 in
-      (a.0.0, a.0.1, t.0, λ j r h. (a.0.1, first.0, first.1, t.1 j r h), operand_begins names a.0.0 d ts a.0.1 first.1)
-
-  -- ---- What counts inside of a block or a `for`
-
-  declares_sound : (d : ℕ) (names : Names) → IsSound (counted_by d (λ e. declares <$> declaration_at e names)) (ReadsItem names d)
-  declares_sound zero names ts x e = absurd cc
-  declares_sound (suc d) names ts x e =
-      let m = map_ok (declaration_at d names ts) declares x e in
-      let s = declaration_sound readers_sound d names ts m.0 m.1 in
-      subst (λ (y : ItemTree Spot × List Token). ReadsItem names (suc d) y.0 ts y.1) m.2 (m.0.1, s.0, s.1, refl)
-
-  start_declares_sound : (d : ℕ) (names : Names) → IsSound (counted_by d (λ e. start_declaration <$> declaration_at e names)) (λ y ts r. Reads (o.start_of names y) d ts r)
-  start_declares_sound zero names ts x e = absurd cc
-  start_declares_sound (suc d) names ts x e =
-      let m = map_ok (declaration_at d names ts) start_declaration x e in
-      let s = declaration_sound readers_sound d names ts m.0 m.1 in
-      subst (λ (y : StartTree Spot × List Token). Reads (o.start_of names y.0) (suc d) ts y.1) m.2 (m.0.1, s.0, s.1, refl)
-
-  case_sound : (d : ℕ) (names : Names) (ts : List Token) (x : ItemTree Spot × List Token) → next_is_key k.Case ts ≡ true
-      → counted_by d (λ e. skipping ((readers names e).expr 3 >>= (λ c. take p.Colon >> pure (case_label (spot ts) c)))) ts ≡ Ok x → ReadsItem names d x.0 ts x.1
-  case_sound zero names ts x opening e = absurd cc
-  case_sound (suc d) names ts x opening e =
-      let c = expr_then names d 3 (omega arith) p.Colon (case_label (spot ts)) (skip ts) x e in
-      subst (λ (y : ItemTree Spot × List Token). ReadsItem names (suc d) y.0 ts y.1) c.2
-        (x.1, tt, next_key_reads k.Case (Some (spot ts)) (o.operand 3 c.0 (o.expr names c.0) ▸ o.sign p.Colon ▸ end) d ts x.1 opening refl (c.3 end x.1 refl), refl)
-
-  default_sound : (d : ℕ) (names : Names) (ts : List Token) (x : ItemTree Spot × List Token) → next_is_key k.Default ts ≡ true
-      → counted_by d (λ e. skipping (take p.Colon >> pure (default_label (spot ts)))) ts ≡ Ok x → ReadsItem names d x.0 ts x.1
-  default_sound zero names ts x opening e = absurd cc
-  default_sound (suc d) names ts x opening e =
-      let t = taken p.Colon (default_label (spot ts)) d (skip ts) x e in
-      subst (λ (y : ItemTree Spot × List Token). ReadsItem names (suc d) y.0 ts y.1) t.0
-        (x.1, tt, next_key_reads k.Default (Some (spot ts)) (o.sign p.Colon ▸ end) d ts x.1 opening refl (t.1 end x.1 refl), refl)
-
-  -- ---- Statements, over what is shown of the reader of those inside
-
   module _ (inner : Names → Parser (StmtTree Spot)) (d : ℕ) (inner_sound : (names : Names) → IsSound (inner names) (ReadsStmt names d)) where
-    pub body_sound : (names : Names) → IsSound (body inner d names) (ReadsBlock names d)
-    body_sound names ts x e =
-        elim (branched (next_is p.LeftBrace ts) (inner names >>= only_block) refuse ts (Ok x) e) [
-          | inl c ↦
-              let a = bind_ok (inner names ts) only_block x c.1 in
-              let s = inner_sound names ts a.0 a.1 in
-              let b = only_block_sound a.0.0 a.0.1 x a.2 in
-              subst (λ us. ReadsBlock names d x.0 ts us) b.1 (subst (λ (y : StmtTree Spot). Reads (o.stmt names y) d ts a.0.1) b.0 s.there)
-          | inr c ↦ absurd cc
-        ]
-
-    does_sound : (names : Names) (ts : List Token) (x : ItemTree Spot × List Token) → and_then (inner names ts) (λ s us. Ok (does s, us)) ≡ Ok x → ReadsItem names d x.0 ts x.1
-    does_sound names ts x e =
-        let m = map_ok (inner names ts) does x e in
-        let s = inner_sound names ts m.0 m.1 in
-        subst (λ (y : ItemTree Spot × List Token). ReadsItem names d y.0 ts y.1) m.2 s.there
-
-    label_sound : (b : StmtStart) (names : Names) (ts : List Token) (x : ItemTree Spot × List Token) → Opens b ts → label_by inner d b names (spot ts) ts ≡ Ok x → ReadsItem names d x.0 ts x.1
-    label_sound begins_case names ts x opening e = case_sound d names ts x opening e
-    label_sound begins_default names ts x opening e = default_sound d names ts x opening e
-    label_sound _ names ts x opening e = does_sound names ts x e
-
-    item_sound : (names : Names) → IsSound (item inner d names) (ReadsItem names d)
-    item_sound names ts x e =
-        elim (branched (starts_spec names ts) (counted_by d (λ e. declares <$> declaration_at e names)) (λ us. label_by inner d (stmt_start us) names (spot us) us) ts (Ok x) e) [
-          | inl c ↦ declares_sound d names ts x c.1
-          | inr c ↦ label_sound (stmt_start ts) names ts x (opens ts) c.1
-        ]
-
-    -- up to the brace that closes the block
-    abbrev Closes : Names → List (ItemTree Spot) → List Token → List Token → Type 0
-    Closes names is ts r = (m : List Token) × Reads (o.items names (gathered_items is)) d ts m × (next_is p.RightBrace m ≡ true) × (skip m ≡ r)
-
-    items_by_sound : (turns : ℕ) (names : Names) → IsSound (items_by inner d turns names) (Closes names)
-    items_by_sound zero names ts x e = absurd cc
-    items_by_sound (suc turns) names ts x e =
-        elim (branched (next_is p.RightBrace ts) (skipping (pure [])) (item inner d names >>= (λ i. (λ is. i ∷ is) <$> items_by inner d turns (after_item i names))) ts (Ok x) e) [
-          | inl c ↦ subst (λ (y : List (ItemTree Spot) × List Token). Closes names y.0 ts y.1) (ok_is ([], skip ts) x c.1) (ts, refl, c.0, refl)
-          | inr c ↦
-              let a = bind_ok (item inner d names ts) (λ i. (λ is. i ∷ is) <$> items_by inner d turns (after_item i names)) x c.1 in
-              let first = item_sound names ts a.0 a.1 in
-              let m = map_ok (items_by inner d turns (after_item a.0.0 names) a.0.1) (λ is. a.0.0 ∷ is) x a.2 in
-              let rest = items_by_sound turns (after_item a.0.0 names) a.0.1 m.0 m.1 in
-              subst (λ (y : List (ItemTree Spot) × List Token). Closes names y.0 ts y.1) m.2 (rest.0, (a.0.1, tt, first, (rest.0, tt, rest.1, refl)), rest.2, rest.3)
-        ]
-
-    items_sound : (names : Names) → IsSound (items inner d names) (λ is ts r. Reads (o.within (o.items names (gathered_items is)) ▸ o.sign p.RightBrace ▸ end) d ts r)
-    items_sound names ts x e =
-        let s = items_by_sound (suc (length ts)) names ts x e in
-        (s.0, tt, s.1, next_reads p.RightBrace None end d s.0 x.1 s.2 tt s.3)
-
-    condition_sound : (names : Names) (ts : List Token) (x : ExprTree Spot × List Token) → condition inner d names ts ≡ Ok x
-        → Begins (λ j. o.sign p.LeftParen ▸ o.operand 1 x.0 (o.expr names x.0) ▸ o.sign p.RightParen ▸ j) d ts x.1
-    condition_sound names ts x e =
-        let a = bind_ok (and_then (take p.LeftParen ts) (λ z. (readers names d).expr 1)) (λ c. take p.RightParen >> pure c) x e in
-        let b = bind_ok (take p.LeftParen ts) (λ z. (readers names d).expr 1) a.0 a.1 in
-        let first = (readers_sound names d).expr 1 (omega arith) b.0.1 a.0 b.2 in
-        let t = taken p.RightParen a.0.0 d a.0.1 x a.2 in
-        let same : a.0.0 ≡ x.0 = ap (λ (y : ExprTree Spot × List Token). y.0) t.0 in
-        subst (λ (c : ExprTree Spot). Begins (λ j. o.sign p.LeftParen ▸ o.operand 1 c (o.expr names c) ▸ o.sign p.RightParen ▸ j) d ts x.1) same
-          (λ j r h. take_reads p.LeftParen (o.operand 1 a.0.0 (o.expr names a.0.0) ▸ o.sign p.RightParen ▸ j) d ts r b.0 b.1 (a.0.1, first.0, first.1, t.1 j r h))
-
-    clause_sound : (names : Names) (ends : List Token → Bool) → IsSound (clause_until inner d names ends) (λ c ts r. Reads (o.clause names c) d ts r)
-    clause_sound names ends ts x e =
-        elim (branched (ends ts) (pure None) (Some <$> (readers names d).expr 1) ts (Ok x) e) [
-          | inl c ↦ subst (λ (y : Option (ExprTree Spot) × List Token). Reads (o.clause names y.0) d ts y.1) (ok_is (None, ts) x c.1) refl
-          | inr c ↦
-              let m = map_ok ((readers names d).expr 1 ts) Some x c.1 in
-              let s = (readers_sound names d).expr 1 (omega arith) ts m.0 m.1 in
-              subst (λ (y : Option (ExprTree Spot) × List Token). Reads (o.clause names y.0) d ts y.1) m.2 (m.0.1, s.0, s.1, refl)
-        ]
-
-    start_expr_sound : (names : Names) → IsSound (start_expr_behind inner d names) (λ y ts r. Reads (o.start_of names y) d ts r)
-    start_expr_sound names ts x e =
-        elim (branched (next_is p.Semicolon ts) (skipping (pure no_start)) ((readers names d).expr 1 >>= (λ c. take p.Semicolon >> pure (start_expr c))) ts (Ok x) e) [
-          | inl c ↦ subst (λ (y : StartTree Spot × List Token). Reads (o.start_of names y.0) d ts y.1) (ok_is (no_start, skip ts) x c.1) (next_reads p.Semicolon None end d ts (skip ts) c.0 tt refl)
-          | inr c ↦
-              let s = expr_then names d 1 (omega arith) p.Semicolon start_expr ts x c.1 in
-              subst (λ (y : StartTree Spot × List Token). Reads (o.start_of names y.0) d ts y.1) s.2 (s.3 end x.1 refl)
-        ]
-
-    start_sound : (names : Names) → IsSound (start_clause inner d names) (λ y ts r. Reads (o.start_of names y) d ts r)
-    start_sound names ts x e =
-        elim (branched (starts_spec names ts) (counted_by d (λ e. start_declaration <$> declaration_at e names)) (start_expr_behind inner d names) ts (Ok x) e) [
-          | inl c ↦ start_declares_sound d names ts x c.1
-          | inr c ↦ start_expr_sound names ts x c.1
-        ]
-
-    -- ---- Statements, behind their first token
-
     -- what stands before the branches of an `if` is there
     else_sound : (names : Names) (n : Spot) (c : ExprTree Spot) (s : StmtTree Spot) (from middle ts : List Token) (x : StmtTree Spot × List Token)
-        → Begins (λ j. o.key_of n k.If ▸ o.sign p.LeftParen ▸ o.operand 1 c (o.expr names c) ▸ o.sign p.RightParen ▸ j) d from middle → ReadsStmt names d s middle ts
+        → Leads (λ j. o.key_of n k.If ▸ o.sign p.LeftParen ▸ o.operand 1 c (o.expr names c) ▸ o.sign p.RightParen ▸ j) d from middle → ReadsStmt names d s middle ts
         → else_behind inner d names n c s ts ≡ Ok x → ReadsStmt names (suc d) x.0 from x.1
     else_sound names n c s from middle ts x before first e =
         elim (branched (next_is_key k.Else ts) (skipping (if_else n c s <$> inner (after_stmt s names))) (pure (if_then n c s)) ts (Ok x) e) [
@@ -209,30 +49,30 @@ module _ (readers_sound : (names : Names) (d : ℕ) → SoundInner names (reader
               let second = inner_sound (after_stmt s names) (skip ts) m.0 m.1 in
               let branches = o.within (o.stmt names s) ▸ token (o.is_open s ≡ false) (kind.Keyword k.Else) None ▸ o.within (o.stmt (after_stmt s names) m.0.0) ▸ end in
               let other = else_reads (o.is_open s ≡ false) (o.within (o.stmt (after_stmt s names) m.0.0) ▸ end) d ts m.0.1 (shut (o.is_open s) (next_is_key k.Else ts) first.closed b.0) b.0 (m.0.1, tt, second.there, refl) in
-              subst (λ (y : StmtTree Spot × List Token). ReadsStmt names (suc d) y.0 from y.1) m.2
+              subst (Gives (ReadsStmt names (suc d)) from) m.2
                 (record { there = (m.0.1, tt, before branches m.0.1 (ts, tt, first.there, other), refl); closed = second.closed })
           | inr b ↦
-              subst (λ (y : StmtTree Spot × List Token). ReadsStmt names (suc d) y.0 from y.1) (ok_is (if_then n c s, ts) x b.1)
+              subst (Gives (ReadsStmt names (suc d)) from) (ok_is (if_then n c s, ts) x b.1)
                 (record { there = (ts, tt, before (o.within (o.stmt names s) ▸ end) ts (ts, tt, first.there, refl), refl); closed = λ h. b.0 })
         ]
 
     block_sound : (names : Names) (ts : List Token) (x : StmtTree Spot × List Token) → next_is p.LeftBrace ts ≡ true → stmt_by inner d begins_block names (spot ts) ts ≡ Ok x → ReadsStmt names (suc d) x.0 ts x.1
     block_sound names ts x opening e =
         let m = map_ok (items inner d names (skip ts)) (λ is. compound (block (spot ts) (gathered_items is))) x e in
-        let s = items_sound names (skip ts) m.0 m.1 in
-        subst (λ (y : StmtTree Spot × List Token). ReadsStmt names (suc d) y.0 ts y.1) m.2
+        let s = items_sound readers_sound inner d inner_sound names (skip ts) m.0 m.1 in
+        subst (Gives (ReadsStmt names (suc d)) ts) m.2
           (record { there = (m.0.1, tt, next_reads p.LeftBrace (Some (spot ts)) (o.within (o.items names (gathered_items m.0.0)) ▸ o.sign p.RightBrace ▸ end) d ts m.0.1 opening refl s, refl); closed = λ h. absurd cc })
 
     empty_sound : (names : Names) (ts : List Token) (x : StmtTree Spot × List Token) → next_is p.Semicolon ts ≡ true → stmt_by inner d begins_empty names (spot ts) ts ≡ Ok x → ReadsStmt names (suc d) x.0 ts x.1
     empty_sound names ts x opening e =
-        subst (λ (y : StmtTree Spot × List Token). ReadsStmt names (suc d) y.0 ts y.1) (ok_is (empty (spot ts), skip ts) x e)
+        subst (Gives (ReadsStmt names (suc d)) ts) (ok_is (empty (spot ts), skip ts) x e)
           (record { there = (skip ts, tt, next_reads p.Semicolon (Some (spot ts)) end d ts (skip ts) opening refl refl, refl); closed = λ h. absurd cc })
 
     if_sound : (names : Names) (ts : List Token) (x : StmtTree Spot × List Token) → next_is_key k.If ts ≡ true → stmt_by inner d begins_if names (spot ts) ts ≡ Ok x → ReadsStmt names (suc d) x.0 ts x.1
     if_sound names ts x opening e =
         let a = bind_ok (condition inner d names (skip ts)) (λ c. inner names >>= else_behind inner d names (spot ts) c) x e in
         let b = bind_ok (inner names a.0.1) (else_behind inner d names (spot ts) a.0.0) x a.2 in
-        let test = condition_sound names (skip ts) a.0 a.1 in
+        let test = condition_sound readers_sound inner d names (skip ts) a.0 a.1 in
         let first = inner_sound names a.0.1 b.0 b.1 in
         else_sound names (spot ts) a.0.0 b.0.0 ts a.0.1 b.0.1 x
           (λ j r h. next_key_reads k.If (Some (spot ts)) (o.sign p.LeftParen ▸ o.operand 1 a.0.0 (o.expr names a.0.0) ▸ o.sign p.RightParen ▸ j) d ts r opening refl (test j r h)) first b.2
@@ -241,20 +81,20 @@ module _ (readers_sound : (names : Names) (d : ℕ) → SoundInner names (reader
     switch_sound names ts x opening e =
         let a = bind_ok (condition inner d names (skip ts)) (λ c. switch (spot ts) c <$> body inner d names) x e in
         let m = map_ok (body inner d names a.0.1) (switch (spot ts) a.0.0) x a.2 in
-        let test = condition_sound names (skip ts) a.0 a.1 in
-        let inside = body_sound names a.0.1 m.0 m.1 in
+        let test = condition_sound readers_sound inner d names (skip ts) a.0 a.1 in
+        let inside = body_sound readers_sound inner d inner_sound names a.0.1 m.0 m.1 in
         let last = o.within (o.block_of names m.0.0) ▸ end in
-        subst (λ (y : StmtTree Spot × List Token). ReadsStmt names (suc d) y.0 ts y.1) m.2
+        subst (Gives (ReadsStmt names (suc d)) ts) m.2
           (record { there = (m.0.1, tt, next_key_reads k.Switch (Some (spot ts)) (o.sign p.LeftParen ▸ o.operand 1 a.0.0 (o.expr names a.0.0) ▸ o.sign p.RightParen ▸ last) d ts m.0.1 opening refl (test last m.0.1 (m.0.1, tt, inside, refl)), refl); closed = λ h. absurd cc })
 
     while_sound : (names : Names) (ts : List Token) (x : StmtTree Spot × List Token) → next_is_key k.While ts ≡ true → stmt_by inner d begins_while names (spot ts) ts ≡ Ok x → ReadsStmt names (suc d) x.0 ts x.1
     while_sound names ts x opening e =
         let a = bind_ok (condition inner d names (skip ts)) (λ c. while_loop (spot ts) c <$> inner names) x e in
         let m = map_ok (inner names a.0.1) (while_loop (spot ts) a.0.0) x a.2 in
-        let test = condition_sound names (skip ts) a.0 a.1 in
+        let test = condition_sound readers_sound inner d names (skip ts) a.0 a.1 in
         let inside = inner_sound names a.0.1 m.0 m.1 in
         let last = o.within (o.stmt names m.0.0) ▸ end in
-        subst (λ (y : StmtTree Spot × List Token). ReadsStmt names (suc d) y.0 ts y.1) m.2
+        subst (Gives (ReadsStmt names (suc d)) ts) m.2
           (record { there = (m.0.1, tt, next_key_reads k.While (Some (spot ts)) (o.sign p.LeftParen ▸ o.operand 1 a.0.0 (o.expr names a.0.0) ▸ o.sign p.RightParen ▸ last) d ts m.0.1 opening refl (test last m.0.1 (m.0.1, tt, inside.there, refl)), refl); closed = inside.closed })
 
     do_sound : (names : Names) (ts : List Token) (x : StmtTree Spot × List Token) → next_is_key k.Do ts ≡ true → stmt_by inner d begins_do names (spot ts) ts ≡ Ok x → ReadsStmt names (suc d) x.0 ts x.1
@@ -265,11 +105,11 @@ module _ (readers_sound : (names : Names) (d : ℕ) → SoundInner names (reader
         let later : Names = after_stmt a.0.0 names in
         let b = bind_ok (and_then (take_key k.While a.0.1) (λ z. condition inner d later)) (λ c. take p.Semicolon >> pure (do_loop (spot ts) a.0.0 c)) x a.2 in
         let w = bind_ok (take_key k.While a.0.1) (λ z. condition inner d later) b.0 b.1 in
-        let test = condition_sound later w.0.1 b.0 w.2 in
+        let test = condition_sound readers_sound inner d later w.0.1 b.0 w.2 in
         let t = taken p.Semicolon (do_loop (spot ts) a.0.0 b.0.0) d b.0.1 x b.2 in
         let last = o.sign p.LeftParen ▸ o.operand 1 b.0.0 (o.expr later b.0.0) ▸ o.sign p.RightParen ▸ o.sign p.Semicolon ▸ end in
         let loops : Reads (o.key k.While ▸ last) d a.0.1 x.1 = take_key_reads k.While last d a.0.1 x.1 w.0 w.1 (test (o.sign p.Semicolon ▸ end) x.1 (t.1 end x.1 refl)) in
-        subst (λ (y : StmtTree Spot × List Token). ReadsStmt names (suc d) y.0 ts y.1) t.0
+        subst (Gives (ReadsStmt names (suc d)) ts) t.0
           (record { there = (x.1, tt, next_key_reads k.Do (Some (spot ts)) (o.within (o.stmt names a.0.0) ▸ o.key k.While ▸ last) d ts x.1 opening refl (a.0.1, tt, first.there, loops), refl); closed = λ h. absurd cc })
 
     -- behind the first clause
@@ -280,10 +120,10 @@ module _ (readers_sound : (names : Names) (d : ℕ) → SoundInner names (reader
         let later : Names = after_start start names in
         let loops : Option (ExprTree Spot) → Option (ExprTree Spot) → Parser (StmtTree Spot) = (λ test each. take p.RightParen >> (for_loop n start test each <$> inner later)) in
         let a = bind_ok (clause_until inner d later (next_is p.Semicolon) ts) (λ test. take p.Semicolon >> clause_until inner d later (next_is p.RightParen) >>= loops test) x e in
-        let test = clause_sound later (next_is p.Semicolon) ts a.0 a.1 in
+        let test = clause_sound readers_sound inner d later (next_is p.Semicolon) ts a.0 a.1 in
         let b = bind_ok (and_then (take p.Semicolon a.0.1) (λ z. clause_until inner d later (next_is p.RightParen))) (loops a.0.0) x a.2 in
         let s = bind_ok (take p.Semicolon a.0.1) (λ z. clause_until inner d later (next_is p.RightParen)) b.0 b.1 in
-        let each = clause_sound later (next_is p.RightParen) s.0.1 b.0 s.2 in
+        let each = clause_sound readers_sound inner d later (next_is p.RightParen) s.0.1 b.0 s.2 in
         let c = bind_ok (take p.RightParen b.0.1) (λ z. for_loop n start a.0.0 b.0.0 <$> inner later) x b.2 in
         let m = map_ok (inner later c.0.1) (for_loop n start a.0.0 b.0.0) x c.2 in
         let inside = inner_sound later c.0.1 m.0 m.1 in
@@ -295,22 +135,22 @@ module _ (readers_sound : (names : Names) (d : ℕ) → SoundInner names (reader
         let goes : Reads (o.sign p.Semicolon ▸ third) d a.0.1 r = take_reads p.Semicolon third d a.0.1 r s.0 s.1 (b.0.1, tt, each, closes) in
         let opens_it : Reads (o.sign p.LeftParen ▸ o.within (o.start_of names start) ▸ second) d (skip from) r =
             take_reads p.LeftParen (o.within (o.start_of names start) ▸ second) d (skip from) r (tt, middle) paren (ts, tt, first, (a.0.1, tt, test, goes)) in
-        subst (λ (y : StmtTree Spot × List Token). ReadsStmt names (suc d) y.0 from y.1) m.2
+        subst (Gives (ReadsStmt names (suc d)) from) m.2
           (record { there = (r, tt, next_key_reads k.For (Some n) (o.sign p.LeftParen ▸ o.within (o.start_of names start) ▸ second) d from r opening at opens_it, refl); closed = inside.closed })
 
     for_sound : (names : Names) (ts : List Token) (x : StmtTree Spot × List Token) → next_is_key k.For ts ≡ true → stmt_by inner d begins_for names (spot ts) ts ≡ Ok x → ReadsStmt names (suc d) x.0 ts x.1
     for_sound names ts x opening e =
         let a = bind_ok (and_then (take p.LeftParen (skip ts)) (λ z. start_clause inner d names)) (for_behind inner d names (spot ts)) x e in
         let b = bind_ok (take p.LeftParen (skip ts)) (λ z. start_clause inner d names) a.0 a.1 in
-        let first = start_sound names b.0.1 a.0 b.2 in
+        let first = start_sound readers_sound inner d names b.0.1 a.0 b.2 in
         for_behind_sound names (spot ts) a.0.0 ts b.0.1 a.0.1 x opening refl b.1 first a.2
 
     return_sound : (names : Names) (ts : List Token) (x : StmtTree Spot × List Token) → next_is_key k.Return ts ≡ true → stmt_by inner d begins_return names (spot ts) ts ≡ Ok x → ReadsStmt names (suc d) x.0 ts x.1
     return_sound names ts x opening e =
         let a = bind_ok (clause_until inner d names (next_is p.Semicolon) (skip ts)) (λ c. take p.Semicolon >> pure (return (spot ts) c)) x e in
-        let s = clause_sound names (next_is p.Semicolon) (skip ts) a.0 a.1 in
+        let s = clause_sound readers_sound inner d names (next_is p.Semicolon) (skip ts) a.0 a.1 in
         let t = taken p.Semicolon (return (spot ts) a.0.0) d a.0.1 x a.2 in
-        subst (λ (y : StmtTree Spot × List Token). ReadsStmt names (suc d) y.0 ts y.1) t.0
+        subst (Gives (ReadsStmt names (suc d)) ts) t.0
           (record { there = (x.1, tt, next_key_reads k.Return (Some (spot ts)) (o.within (o.clause names a.0.0) ▸ o.sign p.Semicolon ▸ end) d ts x.1 opening refl (a.0.1, tt, s, t.1 end x.1 refl), refl); closed = λ h. absurd cc })
 
     -- a keyword and a semicolon
@@ -322,8 +162,8 @@ module _ (readers_sound : (names : Names) (d : ℕ) → SoundInner names (reader
 
     other_sound : (names : Names) (ts : List Token) (x : StmtTree Spot × List Token) → stmt_by inner d begins_other names (spot ts) ts ≡ Ok x → ReadsStmt names (suc d) x.0 ts x.1
     other_sound names ts x e =
-        let s = expr_then names d 1 (omega arith) p.Semicolon (plain (spot ts)) ts x e in
-        subst (λ (y : StmtTree Spot × List Token). ReadsStmt names (suc d) y.0 ts y.1) s.2
+        let s = expr_then readers_sound names d 1 (omega arith) p.Semicolon (plain (spot ts)) ts x e in
+        subst (Gives (ReadsStmt names (suc d)) ts) s.2
           (record { there = (x.1, sym s.4, s.3 end x.1 refl, refl); closed = λ h. absurd cc })
 
     by_sound : (b : StmtStart) (names : Names) (ts : List Token) (x : StmtTree Spot × List Token) → Opens b ts → stmt_by inner d b names (spot ts) ts ≡ Ok x → ReadsStmt names (suc d) x.0 ts x.1
@@ -336,10 +176,10 @@ module _ (readers_sound : (names : Names) (d : ℕ) → SoundInner names (reader
     by_sound begins_for names ts x opening e = for_sound names ts x opening e
     by_sound begins_break names ts x opening e =
         let j = jump_sound k.Break (break (spot ts)) names ts x refl opening e in
-        subst (λ (y : StmtTree Spot × List Token). ReadsStmt names (suc d) y.0 ts y.1) j.0 (record { there = j.1; closed = λ h. absurd cc })
+        subst (Gives (ReadsStmt names (suc d)) ts) j.0 (record { there = j.1; closed = λ h. absurd cc })
     by_sound begins_continue names ts x opening e =
         let j = jump_sound k.Continue (continue (spot ts)) names ts x refl opening e in
-        subst (λ (y : StmtTree Spot × List Token). ReadsStmt names (suc d) y.0 ts y.1) j.0 (record { there = j.1; closed = λ h. absurd cc })
+        subst (Gives (ReadsStmt names (suc d)) ts) j.0 (record { there = j.1; closed = λ h. absurd cc })
     by_sound begins_return names ts x opening e = return_sound names ts x opening e
     by_sound begins_case names ts x opening e = absurd cc
     by_sound begins_default names ts x opening e = absurd cc

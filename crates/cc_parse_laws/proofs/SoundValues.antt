@@ -15,10 +15,14 @@ use Rattle.cc_parse_laws.proofs.Spans.{Inside, Reads}
 use Rattle.cc_parse_laws.proofs.Steps.{bind_ok, map_ok, ok_is, branched, next_reads}
 use Rattle.cc_parse_laws.proofs.Lists.{IsSound, Others, Separated, Enclosed, Braced, enclosed_sound}
 use Rattle.cc_parse_laws.proofs.Inner.{SoundInner}
+use Rattle.cc_parse_laws.proofs.Endings.{Gives}
 
 -- an initialiser, from some tokens to others
 abbrev pub ReadsValue : Names → ℕ → ValueTree Spot → List Token → List Token → Type 0
 ReadsValue names d v ts r = Reads (o.value names v) d ts r
+
+abbrev pub ReadsGiven : Names → ℕ → Option (ValueTree Spot) → List Token → List Token → Type 0
+ReadsGiven names d v ts r = Reads (o.given names v) d ts r
 
 further_values : (names : Names) (d : ℕ) (vs : List (ValueTree Spot)) (ts r : List Token) → Others (ReadsValue names d) vs ts r → Reads (o.further_values names (gathered_values vs)) d ts r
 further_values names d [] ts r s = s
@@ -58,7 +62,7 @@ module _ (readers_sound : (names : Names) (d : ℕ) → SoundInner names (reader
   single_sound names d ts x e =
       let m = map_ok ((readers names d).expr 2 ts) single x e in
       let s = (readers_sound names d).expr 2 (omega arith) ts m.0 m.1 in
-      subst (λ (y : ValueTree Spot × List Token). ReadsValue names d y.0 ts y.1) m.2 (m.0.1, s.0, s.1, refl)
+      subst (Gives (ReadsValue names d) ts) m.2 (m.0.1, s.0, s.1, refl)
 
   pub value_sound : (names : Names) (d : ℕ) → IsSound (value names d) (ReadsValue names d)
   value_sound names zero ts x e = absurd cc
@@ -67,17 +71,17 @@ module _ (readers_sound : (names : Names) (d : ℕ) → SoundInner names (reader
         | inl c ↦
             let m = map_ok (enclosed (value names d) ts) (λ (vs : List (ValueTree Spot) × Bool). braces (spot ts) (gathered_values vs.0) vs.1) x c.1 in
             let s = enclosed_sound (value names d) (ReadsValue names d) (value_sound names d) ts m.0 m.1 in
-            subst (λ (y : ValueTree Spot × List Token). ReadsValue names (suc d) y.0 ts y.1) m.2 (braced names d m.0.0.0 m.0.0.1 ts m.0.1 s)
+            subst (Gives (ReadsValue names (suc d)) ts) m.2 (braced names d m.0.0.0 m.0.0.1 ts m.0.1 s)
         | inr c ↦ single_sound names (suc d) ts x c.1
       ]
 
-  pub given_sound : (names : Names) (d : ℕ) → IsSound (given names d) (λ v ts r. Reads (o.given names v) d ts r)
+  pub given_sound : (names : Names) (d : ℕ) → IsSound (given names d) (ReadsGiven names d)
   given_sound names d ts x e =
       elim (branched (next_is p.Equal ts) (skipping (Some <$> value names d)) (pure None) ts (Ok x) e) [
         | inl c ↦
             let m = map_ok (value names d (skip ts)) Some x c.1 in
             let s = value_sound names d (skip ts) m.0 m.1 in
-            subst (λ (y : Option (ValueTree Spot) × List Token). Reads (o.given names y.0) d ts y.1) m.2
+            subst (Gives (ReadsGiven names d) ts) m.2
               (next_reads p.Equal None (o.within (o.value names m.0.0) ▸ end) d ts m.0.1 c.0 tt (m.0.1, tt, s, refl))
-        | inr c ↦ subst (λ (y : Option (ValueTree Spot) × List Token). Reads (o.given names y.0) d ts y.1) (ok_is (None, ts) x c.1) refl
+        | inr c ↦ subst (Gives (ReadsGiven names d) ts) (ok_is (None, ts) x c.1) refl
       ]
