@@ -36,3 +36,7 @@ taken {A} s a d ts x e =
     let m = map_ok (take s ts) (λ z. a) x e in
     let same : m.0.1 ≡ x.1 = ap (λ (y : A × List Token). y.1) m.2 in
     (ap (λ us. (a, us)) (sym same) ∙ m.2, λ j r h. take_reads s j d ts r m.0 m.1 (subst (λ us. Reads j d us r) (sym same) h))
+
+-- a last part
+pub last_part : (i : Outline) (d : ℕ) (ts r : List Token) → Reads i d ts r → Reads (o.within i ▸ end) d ts r
+last_part i d ts r s = (r, tt, s, refl)

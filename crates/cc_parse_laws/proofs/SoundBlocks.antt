@@ -21,7 +21,7 @@ use Rattle.cc_parse_laws.proofs.Steps.{bind_ok, map_ok, ok_is, branched, next_re
 use Rattle.cc_parse_laws.proofs.Lists.{IsSound}
 use Rattle.cc_parse_laws.proofs.Inner.{SoundInner}
 use Rattle.cc_parse_laws.proofs.Begins.{operand_begins, Opens, opens}
-use Rattle.cc_parse_laws.proofs.Endings.{Gives, Leads, taken}
+use Rattle.cc_parse_laws.proofs.Endings.{Gives, Leads, taken, last_part}
 use Rattle.cc_parse_laws.proofs.SoundDeclarations.{declaration_sound}
 use Rattle.cc_parse_laws.proofs.SoundClauses.{expr_then}
 
@@ -112,7 +112,8 @@ module _ (readers_sound : (names : Names) (d : ℕ) → SoundInner names (reader
               let first = item_sound names ts a.0 a.1 in
               let m = map_ok (items_by inner d turns (after_item a.0.0 names) a.0.1) (λ is. a.0.0 ∷ is) x a.2 in
               let rest = items_by_sound turns (after_item a.0.0 names) a.0.1 m.0 m.1 in
-              subst (Gives (Closes names) ts) m.2 (rest.0, (a.0.1, tt, first, (rest.0, tt, rest.1, refl)), rest.2, rest.3)
+              let others = last_part (o.items (after_item a.0.0 names) (gathered_items m.0.0)) d a.0.1 rest.0 rest.1 in
+              subst (Gives (Closes names) ts) {x = (a.0.0 ∷ m.0.0, m.0.1)} m.2 (rest.0, (a.0.1, tt, first, others), rest.2, rest.3)
         ]
 
     pub items_sound : (names : Names) → IsSound (items inner d names) (λ is ts r. Reads (o.within (o.items names (gathered_items is)) ▸ o.sign p.RightBrace ▸ end) d ts r)

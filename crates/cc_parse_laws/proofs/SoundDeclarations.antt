@@ -15,7 +15,7 @@ use Rattle.cc_parse_laws.proofs.Steps.{bind_ok, map_ok, ok_is, branched, next_re
 use Rattle.cc_parse_laws.proofs.Lists.{IsSound}
 use Rattle.cc_parse_laws.proofs.Inner.{SoundInner, ReadsDeclarator}
 use Rattle.cc_parse_laws.proofs.Endings.{Gives, taken}
-use Rattle.cc_parse_laws.proofs.SoundValues.{given_sound}
+use Rattle.cc_parse_laws.proofs.SoundValues.{ReadsGiven, given_sound}
 
 -- one declarator or more, each with its initialiser or none
 abbrev pub ReadsInits : Names → Bool → ℕ → List (InitTree Spot) → List Token → List Token → Type 0
@@ -30,6 +30,11 @@ more_inits : (names : Names) (typedef : Bool) (d : ℕ) (is : List (InitTree Spo
 more_inits names typedef d [] ts r e s = absurd s
 more_inits names typedef d (i ∷ is) ts r e s =
     next_reads p.Comma None (o.within (o.init_of names typedef i) ▸ o.within (o.more_inits (after_inits typedef (i ∷ []) names) typedef is) ▸ end) d ts r e tt s
+
+-- a declarator and its initialiser, with others behind or none
+inits_from : (names : Names) (typedef : Bool) (d : ℕ) (f : DeclTree Spot) (v : Option (ValueTree Spot)) (is : List (InitTree Spot)) (from ts m r : List Token) → o.is_named f ≡ true → ReadsDeclarator names d f from ts
+    → ReadsGiven (after_declarator typedef f names) d v ts m → Reads (o.more_inits (after_declarator typedef f names) typedef is) d m r → ReadsInits names typedef d (init f v ∷ is) from r
+inits_from names typedef d f v is from ts m r named there value others = (m, tt, (ts, named, there, (m, tt, value, refl)), (r, tt, others, refl))
 
 -- a declaration, and the spot that it has
 abbrev pub ReadsDeclaration : Names → ℕ → DeclarationTree Spot → List Token → List Token → Type 0
@@ -52,8 +57,8 @@ module _ (readers_sound : (names : Names) (d : ℕ) → SoundInner names (reader
             let next = (readers_sound after d).declarator with_name (skip a.0.1) g.0 g.1 in
             let m = map_ok (inits_behind d typedef turns after g.0.0 g.0.1) (λ is. init f a.0.0 ∷ is) x g.2 in
             let rest = inits_behind_sound d typedef turns after g.0.0 (skip a.0.1) g.0.1 m.0 next.0 next.1 m.1 in
-            subst is m.2 (a.0.1, tt, (ts, named, there, (a.0.1, tt, first, refl)), (m.0.1, tt, more_inits after typedef d m.0.0 a.0.1 m.0.1 c.0 rest, refl))
-        | inr c ↦ subst is (ok_is (init f a.0.0 ∷ [], a.0.1) x c.1) (a.0.1, tt, (ts, named, there, (a.0.1, tt, first, refl)), (a.0.1, tt, refl, refl))
+            subst is {x = (init f a.0.0 ∷ m.0.0, m.0.1)} m.2 (inits_from names typedef d f a.0.0 m.0.0 from ts a.0.1 m.0.1 named there first (more_inits after typedef d m.0.0 a.0.1 m.0.1 c.0 rest))
+        | inr c ↦ subst is (ok_is (init f a.0.0 ∷ [], a.0.1) x c.1) (inits_from names typedef d f a.0.0 [] from ts a.0.1 a.0.1 named there first refl)
       ]
 
   pub inits_sound : (d : ℕ) (typedef : Bool) (names : Names) (f : DeclTree Spot) (from ts : List Token) (x : List (InitTree Spot) × List Token) → o.is_named f ≡ true → ReadsDeclarator names d f from ts
@@ -63,14 +68,14 @@ module _ (readers_sound : (names : Names) (d : ℕ) → SoundInner names (reader
 
   -- the declarators and the semicolon, behind the specifiers
   declares_sound : (d : ℕ) (names : Names) (n : Spot) (ss : SpecTrees Spot) (ts : List Token) (x : DeclarationTree Spot × List Token) → and_then (and_then ((readers names d).declarator with_name ts) (inits d (has_typedef ss) names)) (λ is. take p.Semicolon >> pure (declaration n ss is)) ≡ Ok x
-      → (is : List (InitTree Spot)) × (x.0 ≡ declaration n ss is) × Reads (o.within (o.inits names (has_typedef ss) is) ▸ o.sign p.Semicolon ▸ end) d ts x.1
+      → (is : List (InitTree Spot)) × ((declaration n ss is, x.1) ≡ x) × Reads (o.within (o.inits names (has_typedef ss) is) ▸ o.sign p.Semicolon ▸ end) d ts x.1
   declares_sound d names n ss ts x e =
       let a = bind_ok (and_then ((readers names d).declarator with_name ts) (inits d (has_typedef ss) names)) (λ is. take p.Semicolon >> pure (declaration n ss is)) x e in
       let f = bind_ok ((readers names d).declarator with_name ts) (inits d (has_typedef ss) names) a.0 a.1 in
       let first = (readers_sound names d).declarator with_name ts f.0 f.1 in
       let s = inits_sound d (has_typedef ss) names f.0.0 ts f.0.1 a.0 first.0 first.1 f.2 in
-      let m = map_ok (take p.Semicolon a.0.1) (λ z. declaration n ss a.0.0) x a.2 in
-      (a.0.0, ap (λ (y : DeclarationTree Spot × List Token). y.0) (sym m.2), (a.0.1, tt, s, take_reads p.Semicolon end d a.0.1 x.1 m.0 m.1 (ap (λ (y : DeclarationTree Spot × List Token). y.1) m.2)))
+      let t = taken p.Semicolon (declaration n ss a.0.0) d a.0.1 x a.2 in
+      (a.0.0, t.0, (a.0.1, tt, s, t.1 end x.1 refl))
 
   pub declaration_sound : (d : ℕ) (names : Names) → IsSound (declaration_at d names) (ReadsDeclaration names d)
   declaration_sound d names ts x e =
@@ -85,5 +90,5 @@ module _ (readers_sound : (names : Names) (d : ℕ) → SoundInner names (reader
               (specs.0, (a.0.1, tt, specs.1, (a.0.1, tt, refl, semicolon)))
         | inr c ↦
             let s = declares_sound d names n a.0.0 a.0.1 x c.1 in
-            subst (λ (y : DeclarationTree Spot). ReadsDeclaration names d y ts x.1) (sym s.1) (specs.0, (a.0.1, tt, specs.1, s.2))
+            subst (Gives (ReadsDeclaration names d) ts) s.1 (specs.0, (a.0.1, tt, specs.1, s.2))
       ]

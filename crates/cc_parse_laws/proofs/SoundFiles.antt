@@ -17,7 +17,7 @@ use Rattle.cc_parse_laws.proofs.Steps.{bind_ok, map_ok, ok_is, branched, next_re
 use Rattle.cc_parse_laws.proofs.Lists.{IsSound}
 use Rattle.cc_parse_laws.proofs.Inner.{SoundInner, ReadsDeclarator}
 use Rattle.cc_parse_laws.proofs.SoundDeclarations.{inits_sound}
-use Rattle.cc_parse_laws.proofs.Endings.{Gives}
+use Rattle.cc_parse_laws.proofs.Endings.{Gives, taken}
 use Rattle.cc_parse_laws.proofs.SoundBlocks.{body_sound}
 use Rattle.cc_parse_laws.proofs.SoundStatements.{stmt_sound}
 
@@ -59,10 +59,8 @@ module _ (readers_sound : (names : Names) (d : ℕ) → SoundInner names (reader
         | inr c ↦
             let a = bind_ok (inits d (has_typedef ss) names f ts) (λ is. take p.Semicolon >> pure (outer_declaration (declaration n ss is))) x c.1 in
             let s = inits_sound readers_sound d (has_typedef ss) names f middle ts a.0 named there a.1 in
-            let m = map_ok (take p.Semicolon a.0.1) (λ z. outer_declaration (declaration n ss a.0.0)) x a.2 in
-            let semicolon : Reads (o.sign p.Semicolon ▸ end) d a.0.1 m.0.1 = take_reads p.Semicolon end d a.0.1 m.0.1 m.0 m.1 refl in
-            subst (Gives (ReadsExternal names d) from) m.2
-              (m.0.1, at, (middle, tt, specs, (a.0.1, tt, s, semicolon)), refl)
+            let t = taken p.Semicolon (outer_declaration (declaration n ss a.0.0)) d a.0.1 x a.2 in
+            subst (Gives (ReadsExternal names d) from) t.0 (x.1, at, (middle, tt, specs, (a.0.1, tt, s, t.1 end x.1 refl)), refl)
       ]
 
   pub external_sound : (d : ℕ) (names : Names) → IsSound (external d names) (ReadsExternal names d)

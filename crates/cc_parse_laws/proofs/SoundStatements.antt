@@ -21,7 +21,7 @@ use Rattle.cc_parse_laws.proofs.Steps.{bind_ok, map_ok, ok_is, branched, next_re
 use Rattle.cc_parse_laws.proofs.Lists.{IsSound}
 use Rattle.cc_parse_laws.proofs.Inner.{SoundInner}
 use Rattle.cc_parse_laws.proofs.Begins.{operand_begins, Opens, opens}
-use Rattle.cc_parse_laws.proofs.Endings.{Gives, Leads, taken}
+use Rattle.cc_parse_laws.proofs.Endings.{Gives, Leads, taken, last_part}
 use Rattle.cc_parse_laws.proofs.SoundClauses.{ReadsClause, ReadsStart, expr_then, condition_sound, clause_sound, start_sound}
 use Rattle.cc_parse_laws.proofs.SoundBlocks.{ReadsStmt, ReadsItem, ReadsBlock, body_sound, items_sound}
 
@@ -35,6 +35,16 @@ else_reads h i d (t ∷ ts) r holds e s =
 shut : (b : Bool) (c : Bool) → (b ≡ true → c ≡ false) → c ≡ true → b ≡ false
 shut true c h e = absurd (let no : c ≡ false = h refl in cc)
 shut false c h e = refl
+
+-- a `for` up to the end of its first clause, up to the end of the second, and up to the end of the third
+abbrev for_start : Names → Spot → StartTree Spot → Outline → Outline
+for_start names n start j = o.key_of n k.For ▸ o.sign p.LeftParen ▸ o.within (o.start_of names start) ▸ j
+
+abbrev for_test : Names → Spot → StartTree Spot → Option (ExprTree Spot) → Outline → Outline
+for_test names n start test j = for_start names n start (o.within (o.clause (after_start start names) test) ▸ j)
+
+abbrev for_each : Names → Spot → StartTree Spot → Option (ExprTree Spot) → Option (ExprTree Spot) → Outline → Outline
+for_each names n start test each j = for_test names n start test (o.sign p.Semicolon ▸ o.within (o.clause (after_start start names) each) ▸ j)
 
 module _ (readers_sound : (names : Names) (d : ℕ) → SoundInner names (readers names d) d) where
   module _ (inner : Names → Parser (StmtTree Spot)) (d : ℕ) (inner_sound : (names : Names) → IsSound (inner names) (ReadsStmt names d)) where
@@ -112,38 +122,48 @@ module _ (readers_sound : (names : Names) (d : ℕ) → SoundInner names (reader
         subst (Gives (ReadsStmt names (suc d)) ts) t.0
           (record { there = (x.1, tt, next_key_reads k.Do (Some (spot ts)) (o.within (o.stmt names a.0.0) ▸ o.key k.While ▸ last) d ts x.1 opening refl (a.0.1, tt, first.there, loops), refl); closed = λ h. absurd cc })
 
-    -- behind the first clause
-    for_behind_sound : (names : Names) (n : Spot) (start : StartTree Spot) (from middle ts : List Token) (x : StmtTree Spot × List Token)
-        → next_is_key k.For from ≡ true → spot from ≡ n → take p.LeftParen (skip from) ≡ Ok (tt, middle) → Reads (o.start_of names start) d middle ts
-        → for_behind inner d names n start ts ≡ Ok x → ReadsStmt names (suc d) x.0 from x.1
-    for_behind_sound names n start from middle ts x opening at paren first e =
+    -- behind the last clause of a `for`
+    loop_sound : (names : Names) (n : Spot) (start : StartTree Spot) (test each : Option (ExprTree Spot)) (from ts : List Token) (x : StmtTree Spot × List Token) → Leads (for_each names n start test each) d from ts
+        → and_then (take p.RightParen ts) (λ z. for_loop n start test each <$> inner (after_start start names)) ≡ Ok x → ReadsStmt names (suc d) x.0 from x.1
+    loop_sound names n start test each from ts x before e =
         let later : Names = after_start start names in
-        let loops : Option (ExprTree Spot) → Option (ExprTree Spot) → Parser (StmtTree Spot) = (λ test each. take p.RightParen >> (for_loop n start test each <$> inner later)) in
-        let a = bind_ok (clause_until inner d later (next_is p.Semicolon) ts) (λ test. take p.Semicolon >> clause_until inner d later (next_is p.RightParen) >>= loops test) x e in
-        let test = clause_sound readers_sound inner d later (next_is p.Semicolon) ts a.0 a.1 in
-        let b = bind_ok (and_then (take p.Semicolon a.0.1) (λ z. clause_until inner d later (next_is p.RightParen))) (loops a.0.0) x a.2 in
-        let s = bind_ok (take p.Semicolon a.0.1) (λ z. clause_until inner d later (next_is p.RightParen)) b.0 b.1 in
-        let each = clause_sound readers_sound inner d later (next_is p.RightParen) s.0.1 b.0 s.2 in
-        let c = bind_ok (take p.RightParen b.0.1) (λ z. for_loop n start a.0.0 b.0.0 <$> inner later) x b.2 in
-        let m = map_ok (inner later c.0.1) (for_loop n start a.0.0 b.0.0) x c.2 in
-        let inside = inner_sound later c.0.1 m.0 m.1 in
+        let a = bind_ok (take p.RightParen ts) (λ z. for_loop n start test each <$> inner later) x e in
+        let m = map_ok (inner later a.0.1) (for_loop n start test each) x a.2 in
+        let inside = inner_sound later a.0.1 m.0 m.1 in
         let last = o.within (o.stmt later m.0.0) ▸ end in
-        let third = o.within (o.clause later b.0.0) ▸ o.sign p.RightParen ▸ last in
-        let second = o.within (o.clause later a.0.0) ▸ o.sign p.Semicolon ▸ third in
-        let r = m.0.1 in
-        let closes : Reads (o.sign p.RightParen ▸ last) d b.0.1 r = take_reads p.RightParen last d b.0.1 r c.0 c.1 (r, tt, inside.there, refl) in
-        let goes : Reads (o.sign p.Semicolon ▸ third) d a.0.1 r = take_reads p.Semicolon third d a.0.1 r s.0 s.1 (b.0.1, tt, each, closes) in
-        let opens_it : Reads (o.sign p.LeftParen ▸ o.within (o.start_of names start) ▸ second) d (skip from) r =
-            take_reads p.LeftParen (o.within (o.start_of names start) ▸ second) d (skip from) r (tt, middle) paren (ts, tt, first, (a.0.1, tt, test, goes)) in
-        subst (Gives (ReadsStmt names (suc d)) from) m.2
-          (record { there = (r, tt, next_key_reads k.For (Some n) (o.sign p.LeftParen ▸ o.within (o.start_of names start) ▸ second) d from r opening at opens_it, refl); closed = inside.closed })
+        let closes : Reads (o.sign p.RightParen ▸ last) d ts m.0.1 = take_reads p.RightParen last d ts m.0.1 a.0 a.1 (last_part (o.stmt later m.0.0) d a.0.1 m.0.1 inside.there) in
+        subst (Gives (ReadsStmt names (suc d)) from) m.2 (record { there = (m.0.1, tt, before (o.sign p.RightParen ▸ last) m.0.1 closes, refl); closed = inside.closed })
+
+    -- behind the second clause
+    each_sound : (names : Names) (n : Spot) (start : StartTree Spot) (test : Option (ExprTree Spot)) (from ts : List Token) (x : StmtTree Spot × List Token) → Leads (for_test names n start test) d from ts
+        → and_then (and_then (take p.Semicolon ts) (λ z. clause_until inner d (after_start start names) (next_is p.RightParen))) (λ each. take p.RightParen >> (for_loop n start test each <$> inner (after_start start names))) ≡ Ok x
+        → ReadsStmt names (suc d) x.0 from x.1
+    each_sound names n start test from ts x before e =
+        let later : Names = after_start start names in
+        let a = bind_ok (and_then (take p.Semicolon ts) (λ z. clause_until inner d later (next_is p.RightParen))) (λ each. take p.RightParen >> (for_loop n start test each <$> inner later)) x e in
+        let b = bind_ok (take p.Semicolon ts) (λ z. clause_until inner d later (next_is p.RightParen)) a.0 a.1 in
+        let each = clause_sound readers_sound inner d later (next_is p.RightParen) b.0.1 a.0 b.2 in
+        loop_sound names n start test a.0.0 from a.0.1 x
+          (λ j r h. before (o.sign p.Semicolon ▸ o.within (o.clause later a.0.0) ▸ j) r (take_reads p.Semicolon (o.within (o.clause later a.0.0) ▸ j) d ts r b.0 b.1 (a.0.1, tt, each, h))) a.2
+
+    -- behind the first clause
+    test_sound : (names : Names) (n : Spot) (start : StartTree Spot) (from ts : List Token) (x : StmtTree Spot × List Token) → Leads (for_start names n start) d from ts
+        → for_behind inner d names n start ts ≡ Ok x → ReadsStmt names (suc d) x.0 from x.1
+    test_sound names n start from ts x before e =
+        let later : Names = after_start start names in
+        let others : Option (ExprTree Spot) → Parser (StmtTree Spot) = (λ test. take p.Semicolon >> clause_until inner d later (next_is p.RightParen) >>= (λ each. take p.RightParen >> (for_loop n start test each <$> inner later))) in
+        let a = bind_ok (clause_until inner d later (next_is p.Semicolon) ts) others x e in
+        let test = clause_sound readers_sound inner d later (next_is p.Semicolon) ts a.0 a.1 in
+        each_sound names n start a.0.0 from a.0.1 x (λ j r h. before (o.within (o.clause later a.0.0) ▸ j) r (a.0.1, tt, test, h)) a.2
 
     for_sound : (names : Names) (ts : List Token) (x : StmtTree Spot × List Token) → next_is_key k.For ts ≡ true → stmt_by inner d begins_for names (spot ts) ts ≡ Ok x → ReadsStmt names (suc d) x.0 ts x.1
     for_sound names ts x opening e =
         let a = bind_ok (and_then (take p.LeftParen (skip ts)) (λ z. start_clause inner d names)) (for_behind inner d names (spot ts)) x e in
         let b = bind_ok (take p.LeftParen (skip ts)) (λ z. start_clause inner d names) a.0 a.1 in
         let first = start_sound readers_sound inner d names b.0.1 a.0 b.2 in
-        for_behind_sound names (spot ts) a.0.0 ts b.0.1 a.0.1 x opening refl b.1 first a.2
+        let head : Outline → Outline = (λ j. o.within (o.start_of names a.0.0) ▸ j) in
+        let paren : (j : Outline) (r : List Token) → Reads j d a.0.1 r → Reads (o.sign p.LeftParen (head j)) d (skip ts) r = (λ j r h. take_reads p.LeftParen (head j) d (skip ts) r b.0 b.1 (a.0.1, tt, first, h)) in
+        test_sound names (spot ts) a.0.0 ts a.0.1 x (λ j r h. next_key_reads k.For (Some (spot ts)) (o.sign p.LeftParen (head j)) d ts r opening refl (paren j r h)) a.2
 
     return_sound : (names : Names) (ts : List Token) (x : StmtTree Spot × List Token) → next_is_key k.Return ts ≡ true → stmt_by inner d begins_return names (spot ts) ts ≡ Ok x → ReadsStmt names (suc d) x.0 ts x.1
     return_sound names ts x opening e =
@@ -154,9 +174,9 @@ module _ (readers_sound : (names : Names) (d : ℕ) → SoundInner names (reader
           (record { there = (x.1, tt, next_key_reads k.Return (Some (spot ts)) (o.within (o.clause names a.0.0) ▸ o.sign p.Semicolon ▸ end) d ts x.1 opening refl (a.0.1, tt, s, t.1 end x.1 refl), refl); closed = λ h. absurd cc })
 
     -- a keyword and a semicolon
-    jump_sound : (w : Keyword) (s : StmtTree Spot) (names : Names) (ts : List Token) (x : StmtTree Spot × List Token) → o.is_open s ≡ false → next_is_key w ts ≡ true → and_then (take p.Semicolon (skip ts)) (λ z. pure s) ≡ Ok x
+    jump_sound : (w : Keyword) (s : StmtTree Spot) (names : Names) (ts : List Token) (x : StmtTree Spot × List Token) → next_is_key w ts ≡ true → and_then (take p.Semicolon (skip ts)) (λ z. pure s) ≡ Ok x
         → ((s, x.1) ≡ x) × Reads (part true (Unit {0}) (o.key_of (spot ts) w ▸ o.sign p.Semicolon ▸ end) end) (suc d) ts x.1
-    jump_sound w s names ts x is opening e =
+    jump_sound w s names ts x opening e =
         let t = taken p.Semicolon s d (skip ts) x e in
         (t.0, (x.1, tt, next_key_reads w (Some (spot ts)) (o.sign p.Semicolon ▸ end) d ts x.1 opening refl (t.1 end x.1 refl), refl))
 
@@ -175,10 +195,10 @@ module _ (readers_sound : (names : Names) (d : ℕ) → SoundInner names (reader
     by_sound begins_do names ts x opening e = do_sound names ts x opening e
     by_sound begins_for names ts x opening e = for_sound names ts x opening e
     by_sound begins_break names ts x opening e =
-        let j = jump_sound k.Break (break (spot ts)) names ts x refl opening e in
+        let j = jump_sound k.Break (break (spot ts)) names ts x opening e in
         subst (Gives (ReadsStmt names (suc d)) ts) j.0 (record { there = j.1; closed = λ h. absurd cc })
     by_sound begins_continue names ts x opening e =
-        let j = jump_sound k.Continue (continue (spot ts)) names ts x refl opening e in
+        let j = jump_sound k.Continue (continue (spot ts)) names ts x opening e in
         subst (Gives (ReadsStmt names (suc d)) ts) j.0 (record { there = j.1; closed = λ h. absurd cc })
     by_sound begins_return names ts x opening e = return_sound names ts x opening e
     by_sound begins_case names ts x opening e = absurd cc
