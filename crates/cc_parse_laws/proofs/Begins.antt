@@ -1,5 +1,5 @@
 -- Where an expression begins, and which token a statement begins with.
-use Rattle.std.proofs.Common.{◌≡◌, refl, ℕ, zero, suc, Bool, true, false, List, [], ◌∷◌, Option, Some, None, sym, ap, ◌∙◌}
+use Rattle.std.proofs.Common.{◌≡◌, refl, ℕ, zero, suc, true, List, [], ◌∷◌, Option, Some, None, sym, ap, ◌∙◌}
 use Rattle.cc_tree.specs.declared.place.Spot.{Spot}
 use Rattle.cc_lex.specs.declared.token.Token.{Token}
 use Rattle.cc_lex.specs.declared.token.TokenKind.{TokenKind}
@@ -14,7 +14,7 @@ use Rattle.cc_grammar.specs.Outline.{Outline, end, token, part, Stands}
 use Rattle.cc_grammar.specs.Outlines as o
 use Rattle.cc_grammar.specs.Names.{Names}
 use Rattle.cc_grammar.specs.Classes.{is_punct, is_keyword, next_is, next_is_key, spot, StmtStart, begins_block, begins_empty, begins_if, begins_switch, begins_while, begins_do, begins_for, begins_break, begins_continue, begins_return, begins_case, begins_default, begins_other, stmt_key, stmt_sign, stmt_kind, stmt_start}
-use Rattle.cc_parse_laws.proofs.Spans.{Inside, Reads}
+use Rattle.cc_parse_laws.proofs.Spans.{Reads}
 use Rattle.cc_parse_laws.proofs.Inner.{ReadsExpr}
 
 -- ---- Expressions
@@ -92,28 +92,28 @@ pub opens : (ts : List Token) → Opens (stmt_start ts) ts
 opens [] = tt
 opens (t ∷ ts) = by_kind t.kind refl
   where
-  by_key : (w : Keyword) → t.kind ≡ kind.Keyword w → Opens (stmt_key w) (t ∷ ts)
-  by_key k.If e = ap (is_keyword k.If) e
-  by_key k.Switch e = ap (is_keyword k.Switch) e
-  by_key k.While e = ap (is_keyword k.While) e
-  by_key k.Do e = ap (is_keyword k.Do) e
-  by_key k.For e = ap (is_keyword k.For) e
-  by_key k.Break e = ap (is_keyword k.Break) e
-  by_key k.Continue e = ap (is_keyword k.Continue) e
-  by_key k.Return e = ap (is_keyword k.Return) e
-  by_key k.Case e = ap (is_keyword k.Case) e
-  by_key k.Default e = ap (is_keyword k.Default) e
-  by_key _ e = tt
+    by_key : (w : Keyword) → t.kind ≡ kind.Keyword w → Opens (stmt_key w) (t ∷ ts)
+    by_key k.If e = ap (is_keyword k.If) e
+    by_key k.Switch e = ap (is_keyword k.Switch) e
+    by_key k.While e = ap (is_keyword k.While) e
+    by_key k.Do e = ap (is_keyword k.Do) e
+    by_key k.For e = ap (is_keyword k.For) e
+    by_key k.Break e = ap (is_keyword k.Break) e
+    by_key k.Continue e = ap (is_keyword k.Continue) e
+    by_key k.Return e = ap (is_keyword k.Return) e
+    by_key k.Case e = ap (is_keyword k.Case) e
+    by_key k.Default e = ap (is_keyword k.Default) e
+    by_key _ e = tt
 
-  by_sign : (s : Punct) → t.kind ≡ kind.Punct s → Opens (stmt_sign s) (t ∷ ts)
-  by_sign p.LeftBrace e = ap (is_punct p.LeftBrace) e
-  by_sign p.Semicolon e = ap (is_punct p.Semicolon) e
-  by_sign _ e = tt
+    by_sign : (s : Punct) → t.kind ≡ kind.Punct s → Opens (stmt_sign s) (t ∷ ts)
+    by_sign p.LeftBrace e = ap (is_punct p.LeftBrace) e
+    by_sign p.Semicolon e = ap (is_punct p.Semicolon) e
+    by_sign _ e = tt
 
-  by_kind : (c : TokenKind) → t.kind ≡ c → Opens (stmt_kind c) (t ∷ ts)
-  by_kind (kind.Keyword w) e = by_key w e
-  by_kind (kind.Punct s) e = by_sign s e
-  by_kind (kind.Identifier x) e = tt
-  by_kind (kind.Integer v c) e = tt
-  by_kind (kind.Character v) e = tt
-  by_kind (kind.Str bytes) e = tt
+    by_kind : (c : TokenKind) → t.kind ≡ c → Opens (stmt_kind c) (t ∷ ts)
+    by_kind (kind.Keyword w) e = by_key w e
+    by_kind (kind.Punct s) e = by_sign s e
+    by_kind (kind.Identifier x) e = tt
+    by_kind (kind.Integer v c) e = tt
+    by_kind (kind.Character v) e = tt
+    by_kind (kind.Str bytes) e = tt

@@ -1,27 +1,23 @@
 -- What is read as a block is there, if what is read as a statement in it is.
-use Rattle.std.proofs.Common.{◌≡◌, ◌≤◌, ◌+◌, refl, ℕ, zero, suc, Bool, true, false, List, [], ◌∷◌, length, Option, Some, None, Result, Ok, Err, arith, sym, ap, ◌∙◌, subst, ◌⊎◌, inl, inr}
+use Rattle.std.proofs.Common.{◌≡◌, refl, ℕ, zero, suc, true, false, List, [], ◌∷◌, length, Some, None, Ok, arith, subst, inl, inr}
 use Rattle.cc_tree.specs.declared.place.Spot.{Spot}
 use Rattle.cc_lex.specs.declared.token.Token.{Token}
-use Rattle.cc_lex.specs.declared.token.TokenKind.TheVariants as kind
-use Rattle.cc_lex.specs.declared.keyword.Keyword.{Keyword}
 use Rattle.cc_lex.specs.declared.keyword.Keyword.TheVariants as k
-use Rattle.cc_lex.specs.declared.punct.Punct.{Punct}
 use Rattle.cc_lex.specs.declared.punct.Punct.TheVariants as p
-use Rattle.cc_syntax.specs.Trees.{ExprTree, DeclarationTree, StartTree, start_declaration, start_expr, no_start, StmtTree, compound, plain, empty, if_then, if_else, switch, while_loop, do_loop, for_loop, break, continue, return, BlockTree, block, ItemTree, declares, case_label, default_label, does}
+use Rattle.cc_syntax.specs.Trees.{StmtTree, compound, BlockTree, ItemTree, declares, case_label, default_label, does}
 use Rattle.cc_syntax.specs.Views.{gathered_items}
-use Rattle.cc_grammar.specs.Outline.{Outline, end, token, part, ◌▸◌}
+use Rattle.cc_grammar.specs.Outline.{end, ◌▸◌}
 use Rattle.cc_grammar.specs.Outlines as o
-use Rattle.cc_grammar.specs.Names.{Names, after_start, after_stmt, after_item}
-use Rattle.cc_grammar.specs.Classes.{next_is, next_is_key, skip, spot, starts_spec, StmtStart, begins_block, begins_empty, begins_if, begins_switch, begins_while, begins_do, begins_for, begins_break, begins_continue, begins_return, begins_case, begins_default, begins_other, stmt_start}
-use Rattle.cc_grammar.specs.Outcomes.{Outcome, Parser, and_then, ◌>>=◌, ◌>>◌, pure, ◌<$>◌, refuse, take, take_key}
-use Rattle.cc_grammar.specs.Reading as reads
-use Rattle.cc_grammar.specs.Reading.{branch, where_next, placed, skipping, readers, declaration_at, counted_by, only_block, body, label_by, item, items_by, items, condition, else_behind, clause_until, start_expr_behind, start_clause, for_behind, stmt_by}
-use Rattle.cc_parse_laws.proofs.Spans.{Inside, Reads}
-use Rattle.cc_parse_laws.proofs.Steps.{bind_ok, map_ok, ok_is, branched, next_reads, next_key_reads, take_ok, take_reads, take_key_reads}
+use Rattle.cc_grammar.specs.Names.{Names, after_item}
+use Rattle.cc_grammar.specs.Classes.{next_is, next_is_key, skip, spot, starts_spec, StmtStart, begins_case, begins_default, stmt_start}
+use Rattle.cc_grammar.specs.Outcomes.{Parser, and_then, ◌>>=◌, ◌>>◌, pure, ◌<$>◌, refuse, take}
+use Rattle.cc_grammar.specs.Reading.{skipping, readers, declaration_at, counted_by, only_block, body, label_by, item, items_by, items}
+use Rattle.cc_parse_laws.proofs.Spans.{Reads}
+use Rattle.cc_parse_laws.proofs.Steps.{bind_ok, map_ok, ok_is, branched, next_reads, next_key_reads}
 use Rattle.cc_parse_laws.proofs.Lists.{IsSound}
 use Rattle.cc_parse_laws.proofs.Inner.{SoundInner}
-use Rattle.cc_parse_laws.proofs.Begins.{operand_begins, Opens, opens}
-use Rattle.cc_parse_laws.proofs.Endings.{Gives, Leads, taken, last_part}
+use Rattle.cc_parse_laws.proofs.Begins.{Opens, opens}
+use Rattle.cc_parse_laws.proofs.Endings.{Gives, taken, last_part}
 use Rattle.cc_parse_laws.proofs.SoundDeclarations.{declaration_sound}
 use Rattle.cc_parse_laws.proofs.SoundClauses.{expr_then}
 
@@ -56,7 +52,7 @@ module _ (readers_sound : (names : Names) (d : ℕ) → SoundInner names (reader
   case_sound (suc d) names ts x opening e =
       let c = expr_then readers_sound names d 3 (omega arith) p.Colon (case_label (spot ts)) (skip ts) x e in
       subst (Gives (ReadsItem names (suc d)) ts) c.2
-        (x.1, tt, next_key_reads k.Case (Some (spot ts)) (o.operand 3 c.0 (o.expr names c.0) ▸ o.sign p.Colon ▸ end) d ts x.1 opening refl (c.3 end x.1 refl), refl)
+      (x.1, tt, next_key_reads k.Case (Some (spot ts)) (o.operand 3 c.0 (o.expr names c.0) ▸ o.sign p.Colon ▸ end) d ts x.1 opening refl (c.3 end x.1 refl), refl)
 
   default_sound : (d : ℕ) (names : Names) (ts : List Token) (x : ItemTree Spot × List Token) → next_is_key k.Default ts ≡ true
       → counted_by d (λ e. skipping (take p.Colon >> pure (default_label (spot ts)))) ts ≡ Ok x → ReadsItem names d x.0 ts x.1
@@ -64,7 +60,7 @@ module _ (readers_sound : (names : Names) (d : ℕ) → SoundInner names (reader
   default_sound (suc d) names ts x opening e =
       let t = taken p.Colon (default_label (spot ts)) d (skip ts) x e in
       subst (Gives (ReadsItem names (suc d)) ts) t.0
-        (x.1, tt, next_key_reads k.Default (Some (spot ts)) (o.sign p.Colon ▸ end) d ts x.1 opening refl (t.1 end x.1 refl), refl)
+      (x.1, tt, next_key_reads k.Default (Some (spot ts)) (o.sign p.Colon ▸ end) d ts x.1 opening refl (t.1 end x.1 refl), refl)
 
   -- ---- Over what is shown of the reader of the statements inside
 

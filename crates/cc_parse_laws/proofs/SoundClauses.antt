@@ -1,26 +1,21 @@
 -- What is read as a condition, or as a clause of a `for`, is there.
-use Rattle.std.proofs.Common.{◌≡◌, ◌≤◌, ◌+◌, refl, ℕ, zero, suc, Bool, true, false, List, [], ◌∷◌, length, Option, Some, None, Result, Ok, Err, arith, sym, ap, ◌∙◌, subst, ◌⊎◌, inl, inr}
+use Rattle.std.proofs.Common.{◌≡◌, ◌≤◌, refl, ℕ, zero, suc, Bool, List, Option, Some, None, Ok, arith, ap, subst, inl, inr}
 use Rattle.cc_tree.specs.declared.place.Spot.{Spot}
 use Rattle.cc_lex.specs.declared.token.Token.{Token}
-use Rattle.cc_lex.specs.declared.token.TokenKind.TheVariants as kind
-use Rattle.cc_lex.specs.declared.keyword.Keyword.{Keyword}
-use Rattle.cc_lex.specs.declared.keyword.Keyword.TheVariants as k
 use Rattle.cc_lex.specs.declared.punct.Punct.{Punct}
 use Rattle.cc_lex.specs.declared.punct.Punct.TheVariants as p
-use Rattle.cc_syntax.specs.Trees.{ExprTree, DeclarationTree, StartTree, start_declaration, start_expr, no_start, StmtTree, compound, plain, empty, if_then, if_else, switch, while_loop, do_loop, for_loop, break, continue, return, BlockTree, block, ItemTree, declares, case_label, default_label, does}
-use Rattle.cc_syntax.specs.Views.{gathered_items}
-use Rattle.cc_grammar.specs.Outline.{Outline, end, token, part, ◌▸◌}
+use Rattle.cc_syntax.specs.Trees.{ExprTree, StartTree, start_declaration, start_expr, no_start, StmtTree}
+use Rattle.cc_grammar.specs.Outline.{end, ◌▸◌}
 use Rattle.cc_grammar.specs.Outlines as o
-use Rattle.cc_grammar.specs.Names.{Names, after_start, after_stmt, after_item}
-use Rattle.cc_grammar.specs.Classes.{next_is, next_is_key, skip, spot, starts_spec, StmtStart, begins_block, begins_empty, begins_if, begins_switch, begins_while, begins_do, begins_for, begins_break, begins_continue, begins_return, begins_case, begins_default, begins_other, stmt_start}
-use Rattle.cc_grammar.specs.Outcomes.{Outcome, Parser, and_then, ◌>>=◌, ◌>>◌, pure, ◌<$>◌, refuse, take, take_key}
-use Rattle.cc_grammar.specs.Reading as reads
-use Rattle.cc_grammar.specs.Reading.{branch, where_next, placed, skipping, readers, declaration_at, counted_by, only_block, body, label_by, item, items_by, items, condition, else_behind, clause_until, start_expr_behind, start_clause, for_behind, stmt_by}
-use Rattle.cc_parse_laws.proofs.Spans.{Inside, Reads}
-use Rattle.cc_parse_laws.proofs.Steps.{bind_ok, map_ok, ok_is, branched, next_reads, next_key_reads, take_ok, take_reads, take_key_reads}
+use Rattle.cc_grammar.specs.Names.{Names}
+use Rattle.cc_grammar.specs.Classes.{next_is, skip, spot, starts_spec}
+use Rattle.cc_grammar.specs.Outcomes.{Parser, and_then, ◌>>=◌, ◌>>◌, pure, ◌<$>◌, take}
+use Rattle.cc_grammar.specs.Reading.{skipping, readers, declaration_at, counted_by, condition, clause_until, start_expr_behind, start_clause}
+use Rattle.cc_parse_laws.proofs.Spans.{Reads}
+use Rattle.cc_parse_laws.proofs.Steps.{bind_ok, map_ok, ok_is, branched, next_reads, take_reads}
 use Rattle.cc_parse_laws.proofs.Lists.{IsSound}
 use Rattle.cc_parse_laws.proofs.Inner.{SoundInner}
-use Rattle.cc_parse_laws.proofs.Begins.{operand_begins, Opens, opens}
+use Rattle.cc_parse_laws.proofs.Begins.{operand_begins}
 use Rattle.cc_parse_laws.proofs.Endings.{Gives, Leads, taken}
 use Rattle.cc_parse_laws.proofs.SoundDeclarations.{declaration_sound}
 
@@ -59,7 +54,7 @@ module _ (readers_sound : (names : Names) (d : ℕ) → SoundInner names (reader
         let t = taken p.RightParen a.0.0 d a.0.1 x a.2 in
         let same : a.0.0 ≡ x.0 = ap (λ (y : ExprTree Spot × List Token). y.0) t.0 in
         subst (λ (c : ExprTree Spot). Leads (λ j. o.sign p.LeftParen ▸ o.operand 1 c (o.expr names c) ▸ o.sign p.RightParen ▸ j) d ts x.1) same
-          (λ j r h. take_reads p.LeftParen (o.operand 1 a.0.0 (o.expr names a.0.0) ▸ o.sign p.RightParen ▸ j) d ts r b.0 b.1 (a.0.1, first.0, first.1, t.1 j r h))
+        (λ j r h. take_reads p.LeftParen (o.operand 1 a.0.0 (o.expr names a.0.0) ▸ o.sign p.RightParen ▸ j) d ts r b.0 b.1 (a.0.1, first.0, first.1, t.1 j r h))
 
     pub clause_sound : (names : Names) (ends : List Token → Bool) → IsSound (clause_until inner d names ends) (ReadsClause names d)
     clause_sound names ends ts x e =

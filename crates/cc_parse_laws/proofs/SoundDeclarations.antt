@@ -1,17 +1,17 @@
 -- What is read as a declaration is there, and the typedef names grow behind each declarator.
-use Rattle.std.proofs.Common.{◌≡◌, ◌≤◌, ◌+◌, refl, ℕ, zero, suc, Bool, true, false, List, [], ◌∷◌, length, Option, Some, None, Result, Ok, Err, arith, sym, ap, ◌∙◌, subst, ◌⊎◌, inl, inr}
+use Rattle.std.proofs.Common.{◌≡◌, refl, ℕ, zero, suc, Bool, true, List, [], ◌∷◌, length, Option, None, Ok, subst, inl, inr}
 use Rattle.cc_tree.specs.declared.place.Spot.{Spot}
 use Rattle.cc_lex.specs.declared.token.Token.{Token}
 use Rattle.cc_lex.specs.declared.punct.Punct.TheVariants as p
-use Rattle.cc_syntax.specs.Trees.{ExprTree, ValueTree, SpecTrees, DeclTree, InitTree, init, DeclarationTree, declaration}
-use Rattle.cc_grammar.specs.Outline.{Outline, end, token, part, ◌▸◌}
+use Rattle.cc_syntax.specs.Trees.{ValueTree, SpecTrees, DeclTree, InitTree, init, DeclarationTree, declaration}
+use Rattle.cc_grammar.specs.Outline.{end, ◌▸◌}
 use Rattle.cc_grammar.specs.Outlines as o
 use Rattle.cc_grammar.specs.Names.{Names, has_typedef, after_declarator, after_inits}
 use Rattle.cc_grammar.specs.Classes.{next_is, skip, spot}
-use Rattle.cc_grammar.specs.Outcomes.{Outcome, Parser, and_then, ◌>>=◌, ◌>>◌, pure, ◌<$>◌, take}
-use Rattle.cc_grammar.specs.Reading.{branch, where_next, placed, skipping, with_name, readers, value, given, inits_behind, inits, declaration_at}
-use Rattle.cc_parse_laws.proofs.Spans.{Inside, Reads}
-use Rattle.cc_parse_laws.proofs.Steps.{bind_ok, map_ok, ok_is, branched, next_reads, take_ok, take_reads}
+use Rattle.cc_grammar.specs.Outcomes.{Parser, and_then, ◌>>=◌, ◌>>◌, pure, ◌<$>◌, take}
+use Rattle.cc_grammar.specs.Reading.{where_next, skipping, with_name, readers, value, given, inits_behind, inits, declaration_at}
+use Rattle.cc_parse_laws.proofs.Spans.{Reads}
+use Rattle.cc_parse_laws.proofs.Steps.{bind_ok, map_ok, ok_is, branched, next_reads}
 use Rattle.cc_parse_laws.proofs.Lists.{IsSound}
 use Rattle.cc_parse_laws.proofs.Inner.{SoundInner, ReadsDeclarator}
 use Rattle.cc_parse_laws.proofs.Endings.{Gives, taken}
@@ -87,7 +87,7 @@ module _ (readers_sound : (names : Names) (d : ℕ) → SoundInner names (reader
         | inl c ↦
             let semicolon : Reads (o.sign p.Semicolon ▸ end) d a.0.1 (skip a.0.1) = next_reads p.Semicolon None end d a.0.1 (skip a.0.1) c.0 tt refl in
             subst (Gives (ReadsDeclaration names d) ts) (ok_is (declaration n a.0.0 [], skip a.0.1) x c.1)
-              (specs.0, (a.0.1, tt, specs.1, (a.0.1, tt, refl, semicolon)))
+            (specs.0, (a.0.1, tt, specs.1, (a.0.1, tt, refl, semicolon)))
         | inr c ↦
             let s = declares_sound d names n a.0.0 a.0.1 x c.1 in
             subst (Gives (ReadsDeclaration names d) ts) s.1 (specs.0, (a.0.1, tt, specs.1, s.2))

@@ -1,19 +1,19 @@
 -- What is read as a file is there: the tokens that are read are a file of the grammar.
-use Rattle.std.proofs.Common.{◌≡◌, ◌≤◌, refl, ℕ, zero, suc, Bool, true, false, List, [], ◌∷◌, length, Option, Some, None, Result, Ok, Err, sym, ap, ◌∙◌, subst, ◌⊎◌, inl, inr}
+use Rattle.std.proofs.Common.{◌≡◌, refl, ℕ, zero, suc, true, List, [], ◌∷◌, length, None, Ok, subst, inl, inr}
 use Rattle.cc_tree.specs.declared.place.Spot.{Spot}
 use Rattle.cc_lex.specs.declared.token.Token.{Token}
 use Rattle.cc_lex.specs.declared.punct.Punct.TheVariants as p
-use Rattle.cc_syntax.specs.Trees.{SpecTrees, no_specs, more_specs, DeclTree, declared, nameless, pointer, array, function, grouped, InitTree, DeclarationTree, declaration, ExternalTree, outer_declaration, definition}
-use Rattle.cc_grammar.specs.Outline.{Outline, end, token, part, ◌▸◌}
+use Rattle.cc_syntax.specs.Trees.{SpecTrees, no_specs, more_specs, DeclTree, declared, nameless, pointer, array, function, grouped, declaration, ExternalTree, outer_declaration, definition}
+use Rattle.cc_grammar.specs.Outline.{end, ◌▸◌}
 use Rattle.cc_grammar.specs.Outlines as o
 use Rattle.cc_grammar.specs.Outlines.{limit, WellFormed}
 use Rattle.cc_grammar.specs.Names.{Names, has_typedef, after_external}
 use Rattle.cc_grammar.specs.Classes.{next_is, skip, spot}
-use Rattle.cc_grammar.specs.Outcomes.{Outcome, Parser, and_then, ◌>>=◌, ◌>>◌, pure, ◌<$>◌, take}
+use Rattle.cc_grammar.specs.Outcomes.{Parser, ◌>>=◌, ◌>>◌, pure, ◌<$>◌, take}
 use Rattle.cc_grammar.specs.Reading as reads
 use Rattle.cc_grammar.specs.Reading.{branch, where_next, placed, skipping, with_name, readers, spot_or, inits, body, external_behind, external, ended, externals_by, reading}
-use Rattle.cc_parse_laws.proofs.Spans.{Inside, Reads, reads_hold, reads_depth, reads_spell}
-use Rattle.cc_parse_laws.proofs.Steps.{bind_ok, map_ok, ok_is, branched, next_reads, take_reads}
+use Rattle.cc_parse_laws.proofs.Spans.{Reads, reads_hold, reads_depth, reads_spell}
+use Rattle.cc_parse_laws.proofs.Steps.{bind_ok, map_ok, ok_is, branched, next_reads}
 use Rattle.cc_parse_laws.proofs.Lists.{IsSound}
 use Rattle.cc_parse_laws.proofs.Inner.{SoundInner, ReadsDeclarator}
 use Rattle.cc_parse_laws.proofs.SoundDeclarations.{inits_sound}
@@ -55,7 +55,7 @@ module _ (readers_sound : (names : Names) (d : ℕ) → SoundInner names (reader
             let m = map_ok (body (reads.stmt d) d names ts) (definition (spot_or f n) ss f) x c.1 in
             let s = body_sound readers_sound (reads.stmt d) d (stmt_sound readers_sound d) names ts m.0 m.1 in
             subst (Gives (ReadsExternal names d) from) m.2
-              (m.0.1, (has_specs ss n at, spot_is f n), (middle, tt, specs, (ts, named, there, (m.0.1, tt, s, refl))), refl)
+            (m.0.1, (has_specs ss n at, spot_is f n), (middle, tt, specs, (ts, named, there, (m.0.1, tt, s, refl))), refl)
         | inr c ↦
             let a = bind_ok (inits d (has_typedef ss) names f ts) (λ is. take p.Semicolon >> pure (outer_declaration (declaration n ss is))) x c.1 in
             let s = inits_sound readers_sound d (has_typedef ss) names f middle ts a.0 named there a.1 in
@@ -73,7 +73,7 @@ module _ (readers_sound : (names : Names) (d : ℕ) → SoundInner names (reader
         | inl c ↦
             let semicolon : Reads (o.sign p.Semicolon ▸ end) d a.0.1 (skip a.0.1) = next_reads p.Semicolon None end d a.0.1 (skip a.0.1) c.0 tt refl in
             subst (Gives (ReadsExternal names d) ts) (ok_is (outer_declaration (declaration n a.0.0 []), skip a.0.1) x c.1)
-              (skip a.0.1, specs.0, (a.0.1, tt, specs.1, (a.0.1, tt, refl, semicolon)), refl)
+            (skip a.0.1, specs.0, (a.0.1, tt, specs.1, (a.0.1, tt, refl, semicolon)), refl)
         | inr c ↦
             let f = bind_ok ((readers names d).declarator with_name a.0.1) (external_behind d names n a.0.0) x c.1 in
             let first = (readers_sound names d).declarator with_name a.0.1 f.0 f.1 in

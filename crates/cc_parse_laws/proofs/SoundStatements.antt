@@ -1,29 +1,28 @@
 -- What is read as a statement is there, and no `else` stands behind one that it would belong to.
-use Rattle.std.proofs.Common.{◌≡◌, ◌≤◌, ◌+◌, refl, ℕ, zero, suc, Bool, true, false, List, [], ◌∷◌, length, Option, Some, None, Result, Ok, Err, arith, sym, ap, ◌∙◌, subst, ◌⊎◌, inl, inr}
+use Rattle.std.proofs.Common.{◌≡◌, refl, ℕ, zero, suc, Bool, true, false, List, [], ◌∷◌, Option, Some, None, Ok, arith, sym, subst, inl, inr}
 use Rattle.cc_tree.specs.declared.place.Spot.{Spot}
 use Rattle.cc_lex.specs.declared.token.Token.{Token}
 use Rattle.cc_lex.specs.declared.token.TokenKind.TheVariants as kind
 use Rattle.cc_lex.specs.declared.keyword.Keyword.{Keyword}
 use Rattle.cc_lex.specs.declared.keyword.Keyword.TheVariants as k
-use Rattle.cc_lex.specs.declared.punct.Punct.{Punct}
 use Rattle.cc_lex.specs.declared.punct.Punct.TheVariants as p
-use Rattle.cc_syntax.specs.Trees.{ExprTree, DeclarationTree, StartTree, start_declaration, start_expr, no_start, StmtTree, compound, plain, empty, if_then, if_else, switch, while_loop, do_loop, for_loop, break, continue, return, BlockTree, block, ItemTree, declares, case_label, default_label, does}
+use Rattle.cc_syntax.specs.Trees.{ExprTree, StartTree, StmtTree, compound, plain, empty, if_then, if_else, switch, while_loop, do_loop, for_loop, break, continue, return, block}
 use Rattle.cc_syntax.specs.Views.{gathered_items}
 use Rattle.cc_grammar.specs.Outline.{Outline, end, token, part, ◌▸◌}
 use Rattle.cc_grammar.specs.Outlines as o
-use Rattle.cc_grammar.specs.Names.{Names, after_start, after_stmt, after_item}
-use Rattle.cc_grammar.specs.Classes.{next_is, next_is_key, skip, spot, starts_spec, StmtStart, begins_block, begins_empty, begins_if, begins_switch, begins_while, begins_do, begins_for, begins_break, begins_continue, begins_return, begins_case, begins_default, begins_other, stmt_start}
-use Rattle.cc_grammar.specs.Outcomes.{Outcome, Parser, and_then, ◌>>=◌, ◌>>◌, pure, ◌<$>◌, refuse, take, take_key}
+use Rattle.cc_grammar.specs.Names.{Names, after_start, after_stmt}
+use Rattle.cc_grammar.specs.Classes.{next_is, next_is_key, skip, spot, StmtStart, begins_block, begins_empty, begins_if, begins_switch, begins_while, begins_do, begins_for, begins_break, begins_continue, begins_return, begins_case, begins_default, begins_other, stmt_start}
+use Rattle.cc_grammar.specs.Outcomes.{Parser, and_then, ◌>>=◌, ◌>>◌, pure, ◌<$>◌, take, take_key}
 use Rattle.cc_grammar.specs.Reading as reads
 use Rattle.cc_grammar.specs.Reading.{branch, where_next, placed, skipping, readers, declaration_at, counted_by, only_block, body, label_by, item, items_by, items, condition, else_behind, clause_until, start_expr_behind, start_clause, for_behind, stmt_by}
-use Rattle.cc_parse_laws.proofs.Spans.{Inside, Reads}
-use Rattle.cc_parse_laws.proofs.Steps.{bind_ok, map_ok, ok_is, branched, next_reads, next_key_reads, take_ok, take_reads, take_key_reads}
+use Rattle.cc_parse_laws.proofs.Spans.{Reads}
+use Rattle.cc_parse_laws.proofs.Steps.{bind_ok, map_ok, ok_is, branched, next_reads, next_key_reads, take_reads, take_key_reads}
 use Rattle.cc_parse_laws.proofs.Lists.{IsSound}
 use Rattle.cc_parse_laws.proofs.Inner.{SoundInner}
-use Rattle.cc_parse_laws.proofs.Begins.{operand_begins, Opens, opens}
+use Rattle.cc_parse_laws.proofs.Begins.{Opens, opens}
 use Rattle.cc_parse_laws.proofs.Endings.{Gives, Leads, taken, last_part}
-use Rattle.cc_parse_laws.proofs.SoundClauses.{ReadsClause, ReadsStart, expr_then, condition_sound, clause_sound, start_sound}
-use Rattle.cc_parse_laws.proofs.SoundBlocks.{ReadsStmt, ReadsItem, ReadsBlock, body_sound, items_sound}
+use Rattle.cc_parse_laws.proofs.SoundClauses.{expr_then, condition_sound, clause_sound, start_sound}
+use Rattle.cc_parse_laws.proofs.SoundBlocks.{ReadsStmt, body_sound, items_sound}
 
 -- an `else` behind a closed statement
 else_reads : (h : Type 0) (i : Outline) (d : ℕ) (ts r : List Token) → h → next_is_key k.Else ts ≡ true → Reads i d (skip ts) r → Reads (token h (kind.Keyword k.Else) None i) d ts r
@@ -60,10 +59,10 @@ module _ (readers_sound : (names : Names) (d : ℕ) → SoundInner names (reader
               let branches = o.within (o.stmt names s) ▸ token (o.is_open s ≡ false) (kind.Keyword k.Else) None ▸ o.within (o.stmt (after_stmt s names) m.0.0) ▸ end in
               let other = else_reads (o.is_open s ≡ false) (o.within (o.stmt (after_stmt s names) m.0.0) ▸ end) d ts m.0.1 (shut (o.is_open s) (next_is_key k.Else ts) first.closed b.0) b.0 (m.0.1, tt, second.there, refl) in
               subst (Gives (ReadsStmt names (suc d)) from) m.2
-                (record { there = (m.0.1, tt, before branches m.0.1 (ts, tt, first.there, other), refl); closed = second.closed })
+              (record { there = (m.0.1, tt, before branches m.0.1 (ts, tt, first.there, other), refl); closed = second.closed })
           | inr b ↦
               subst (Gives (ReadsStmt names (suc d)) from) (ok_is (if_then n c s, ts) x b.1)
-                (record { there = (ts, tt, before (o.within (o.stmt names s) ▸ end) ts (ts, tt, first.there, refl), refl); closed = λ h. b.0 })
+              (record { there = (ts, tt, before (o.within (o.stmt names s) ▸ end) ts (ts, tt, first.there, refl), refl); closed = λ h. b.0 })
         ]
 
     block_sound : (names : Names) (ts : List Token) (x : StmtTree Spot × List Token) → next_is p.LeftBrace ts ≡ true → stmt_by inner d begins_block names (spot ts) ts ≡ Ok x → ReadsStmt names (suc d) x.0 ts x.1
@@ -71,12 +70,12 @@ module _ (readers_sound : (names : Names) (d : ℕ) → SoundInner names (reader
         let m = map_ok (items inner d names (skip ts)) (λ is. compound (block (spot ts) (gathered_items is))) x e in
         let s = items_sound readers_sound inner d inner_sound names (skip ts) m.0 m.1 in
         subst (Gives (ReadsStmt names (suc d)) ts) m.2
-          (record { there = (m.0.1, tt, next_reads p.LeftBrace (Some (spot ts)) (o.within (o.items names (gathered_items m.0.0)) ▸ o.sign p.RightBrace ▸ end) d ts m.0.1 opening refl s, refl); closed = λ h. absurd cc })
+        (record { there = (m.0.1, tt, next_reads p.LeftBrace (Some (spot ts)) (o.within (o.items names (gathered_items m.0.0)) ▸ o.sign p.RightBrace ▸ end) d ts m.0.1 opening refl s, refl); closed = λ h. absurd cc })
 
     empty_sound : (names : Names) (ts : List Token) (x : StmtTree Spot × List Token) → next_is p.Semicolon ts ≡ true → stmt_by inner d begins_empty names (spot ts) ts ≡ Ok x → ReadsStmt names (suc d) x.0 ts x.1
     empty_sound names ts x opening e =
         subst (Gives (ReadsStmt names (suc d)) ts) (ok_is (empty (spot ts), skip ts) x e)
-          (record { there = (skip ts, tt, next_reads p.Semicolon (Some (spot ts)) end d ts (skip ts) opening refl refl, refl); closed = λ h. absurd cc })
+        (record { there = (skip ts, tt, next_reads p.Semicolon (Some (spot ts)) end d ts (skip ts) opening refl refl, refl); closed = λ h. absurd cc })
 
     if_sound : (names : Names) (ts : List Token) (x : StmtTree Spot × List Token) → next_is_key k.If ts ≡ true → stmt_by inner d begins_if names (spot ts) ts ≡ Ok x → ReadsStmt names (suc d) x.0 ts x.1
     if_sound names ts x opening e =
@@ -85,7 +84,7 @@ module _ (readers_sound : (names : Names) (d : ℕ) → SoundInner names (reader
         let test = condition_sound readers_sound inner d names (skip ts) a.0 a.1 in
         let first = inner_sound names a.0.1 b.0 b.1 in
         else_sound names (spot ts) a.0.0 b.0.0 ts a.0.1 b.0.1 x
-          (λ j r h. next_key_reads k.If (Some (spot ts)) (o.sign p.LeftParen ▸ o.operand 1 a.0.0 (o.expr names a.0.0) ▸ o.sign p.RightParen ▸ j) d ts r opening refl (test j r h)) first b.2
+        (λ j r h. next_key_reads k.If (Some (spot ts)) (o.sign p.LeftParen ▸ o.operand 1 a.0.0 (o.expr names a.0.0) ▸ o.sign p.RightParen ▸ j) d ts r opening refl (test j r h)) first b.2
 
     switch_sound : (names : Names) (ts : List Token) (x : StmtTree Spot × List Token) → next_is_key k.Switch ts ≡ true → stmt_by inner d begins_switch names (spot ts) ts ≡ Ok x → ReadsStmt names (suc d) x.0 ts x.1
     switch_sound names ts x opening e =
@@ -95,7 +94,7 @@ module _ (readers_sound : (names : Names) (d : ℕ) → SoundInner names (reader
         let inside = body_sound readers_sound inner d inner_sound names a.0.1 m.0 m.1 in
         let last = o.within (o.block_of names m.0.0) ▸ end in
         subst (Gives (ReadsStmt names (suc d)) ts) m.2
-          (record { there = (m.0.1, tt, next_key_reads k.Switch (Some (spot ts)) (o.sign p.LeftParen ▸ o.operand 1 a.0.0 (o.expr names a.0.0) ▸ o.sign p.RightParen ▸ last) d ts m.0.1 opening refl (test last m.0.1 (m.0.1, tt, inside, refl)), refl); closed = λ h. absurd cc })
+        (record { there = (m.0.1, tt, next_key_reads k.Switch (Some (spot ts)) (o.sign p.LeftParen ▸ o.operand 1 a.0.0 (o.expr names a.0.0) ▸ o.sign p.RightParen ▸ last) d ts m.0.1 opening refl (test last m.0.1 (m.0.1, tt, inside, refl)), refl); closed = λ h. absurd cc })
 
     while_sound : (names : Names) (ts : List Token) (x : StmtTree Spot × List Token) → next_is_key k.While ts ≡ true → stmt_by inner d begins_while names (spot ts) ts ≡ Ok x → ReadsStmt names (suc d) x.0 ts x.1
     while_sound names ts x opening e =
@@ -105,7 +104,7 @@ module _ (readers_sound : (names : Names) (d : ℕ) → SoundInner names (reader
         let inside = inner_sound names a.0.1 m.0 m.1 in
         let last = o.within (o.stmt names m.0.0) ▸ end in
         subst (Gives (ReadsStmt names (suc d)) ts) m.2
-          (record { there = (m.0.1, tt, next_key_reads k.While (Some (spot ts)) (o.sign p.LeftParen ▸ o.operand 1 a.0.0 (o.expr names a.0.0) ▸ o.sign p.RightParen ▸ last) d ts m.0.1 opening refl (test last m.0.1 (m.0.1, tt, inside.there, refl)), refl); closed = inside.closed })
+        (record { there = (m.0.1, tt, next_key_reads k.While (Some (spot ts)) (o.sign p.LeftParen ▸ o.operand 1 a.0.0 (o.expr names a.0.0) ▸ o.sign p.RightParen ▸ last) d ts m.0.1 opening refl (test last m.0.1 (m.0.1, tt, inside.there, refl)), refl); closed = inside.closed })
 
     do_sound : (names : Names) (ts : List Token) (x : StmtTree Spot × List Token) → next_is_key k.Do ts ≡ true → stmt_by inner d begins_do names (spot ts) ts ≡ Ok x → ReadsStmt names (suc d) x.0 ts x.1
     do_sound names ts x opening e =
@@ -120,7 +119,7 @@ module _ (readers_sound : (names : Names) (d : ℕ) → SoundInner names (reader
         let last = o.sign p.LeftParen ▸ o.operand 1 b.0.0 (o.expr later b.0.0) ▸ o.sign p.RightParen ▸ o.sign p.Semicolon ▸ end in
         let loops : Reads (o.key k.While ▸ last) d a.0.1 x.1 = take_key_reads k.While last d a.0.1 x.1 w.0 w.1 (test (o.sign p.Semicolon ▸ end) x.1 (t.1 end x.1 refl)) in
         subst (Gives (ReadsStmt names (suc d)) ts) t.0
-          (record { there = (x.1, tt, next_key_reads k.Do (Some (spot ts)) (o.within (o.stmt names a.0.0) ▸ o.key k.While ▸ last) d ts x.1 opening refl (a.0.1, tt, first.there, loops), refl); closed = λ h. absurd cc })
+        (record { there = (x.1, tt, next_key_reads k.Do (Some (spot ts)) (o.within (o.stmt names a.0.0) ▸ o.key k.While ▸ last) d ts x.1 opening refl (a.0.1, tt, first.there, loops), refl); closed = λ h. absurd cc })
 
     -- behind the last clause of a `for`
     loop_sound : (names : Names) (n : Spot) (start : StartTree Spot) (test each : Option (ExprTree Spot)) (from ts : List Token) (x : StmtTree Spot × List Token) → Leads (for_each names n start test each) d from ts
@@ -144,7 +143,7 @@ module _ (readers_sound : (names : Names) (d : ℕ) → SoundInner names (reader
         let b = bind_ok (take p.Semicolon ts) (λ z. clause_until inner d later (next_is p.RightParen)) a.0 a.1 in
         let each = clause_sound readers_sound inner d later (next_is p.RightParen) b.0.1 a.0 b.2 in
         loop_sound names n start test a.0.0 from a.0.1 x
-          (λ j r h. before (o.sign p.Semicolon ▸ o.within (o.clause later a.0.0) ▸ j) r (take_reads p.Semicolon (o.within (o.clause later a.0.0) ▸ j) d ts r b.0 b.1 (a.0.1, tt, each, h))) a.2
+        (λ j r h. before (o.sign p.Semicolon ▸ o.within (o.clause later a.0.0) ▸ j) r (take_reads p.Semicolon (o.within (o.clause later a.0.0) ▸ j) d ts r b.0 b.1 (a.0.1, tt, each, h))) a.2
 
     -- behind the first clause
     test_sound : (names : Names) (n : Spot) (start : StartTree Spot) (from ts : List Token) (x : StmtTree Spot × List Token) → Leads (for_start names n start) d from ts
@@ -171,7 +170,7 @@ module _ (readers_sound : (names : Names) (d : ℕ) → SoundInner names (reader
         let s = clause_sound readers_sound inner d names (next_is p.Semicolon) (skip ts) a.0 a.1 in
         let t = taken p.Semicolon (return (spot ts) a.0.0) d a.0.1 x a.2 in
         subst (Gives (ReadsStmt names (suc d)) ts) t.0
-          (record { there = (x.1, tt, next_key_reads k.Return (Some (spot ts)) (o.within (o.clause names a.0.0) ▸ o.sign p.Semicolon ▸ end) d ts x.1 opening refl (a.0.1, tt, s, t.1 end x.1 refl), refl); closed = λ h. absurd cc })
+        (record { there = (x.1, tt, next_key_reads k.Return (Some (spot ts)) (o.within (o.clause names a.0.0) ▸ o.sign p.Semicolon ▸ end) d ts x.1 opening refl (a.0.1, tt, s, t.1 end x.1 refl), refl); closed = λ h. absurd cc })
 
     -- a keyword and a semicolon
     jump_sound : (w : Keyword) (s : StmtTree Spot) (names : Names) (ts : List Token) (x : StmtTree Spot × List Token) → next_is_key w ts ≡ true → and_then (take p.Semicolon (skip ts)) (λ z. pure s) ≡ Ok x
@@ -184,7 +183,7 @@ module _ (readers_sound : (names : Names) (d : ℕ) → SoundInner names (reader
     other_sound names ts x e =
         let s = expr_then readers_sound names d 1 (omega arith) p.Semicolon (plain (spot ts)) ts x e in
         subst (Gives (ReadsStmt names (suc d)) ts) s.2
-          (record { there = (x.1, sym s.4, s.3 end x.1 refl, refl); closed = λ h. absurd cc })
+        (record { there = (x.1, sym s.4, s.3 end x.1 refl, refl); closed = λ h. absurd cc })
 
     by_sound : (b : StmtStart) (names : Names) (ts : List Token) (x : StmtTree Spot × List Token) → Opens b ts → stmt_by inner d b names (spot ts) ts ≡ Ok x → ReadsStmt names (suc d) x.0 ts x.1
     by_sound begins_block names ts x opening e = block_sound names ts x opening e

@@ -1,18 +1,18 @@
 -- What is read as an initialiser is there.
-use Rattle.std.proofs.Common.{◌≡◌, ◌≤◌, ◌+◌, refl, ℕ, zero, suc, Bool, true, false, List, [], ◌∷◌, length, Option, Some, None, Result, Ok, Err, arith, sym, ap, ◌∙◌, subst, ◌⊎◌, inl, inr}
+use Rattle.std.proofs.Common.{◌≡◌, refl, ℕ, zero, suc, Bool, true, false, List, [], ◌∷◌, Option, Some, None, Ok, arith, subst, inl, inr}
 use Rattle.cc_tree.specs.declared.place.Spot.{Spot}
 use Rattle.cc_lex.specs.declared.token.Token.{Token}
 use Rattle.cc_lex.specs.declared.punct.Punct.TheVariants as p
-use Rattle.cc_syntax.specs.Trees.{ExprTree, ValueTree, single, braces, ValueTrees}
+use Rattle.cc_syntax.specs.Trees.{ValueTree, single, braces}
 use Rattle.cc_syntax.specs.Views.{gathered_values}
-use Rattle.cc_grammar.specs.Outline.{Outline, end, token, part, ◌▸◌}
+use Rattle.cc_grammar.specs.Outline.{Outline, end, ◌▸◌}
 use Rattle.cc_grammar.specs.Outlines as o
 use Rattle.cc_grammar.specs.Names.{Names}
 use Rattle.cc_grammar.specs.Classes.{next_is, skip, spot}
-use Rattle.cc_grammar.specs.Outcomes.{Outcome, Parser, and_then, ◌>>=◌, ◌>>◌, pure, ◌<$>◌}
-use Rattle.cc_grammar.specs.Reading.{branch, where_next, placed, skipping, enclosed, readers, value, given}
-use Rattle.cc_parse_laws.proofs.Spans.{Inside, Reads}
-use Rattle.cc_parse_laws.proofs.Steps.{bind_ok, map_ok, ok_is, branched, next_reads}
+use Rattle.cc_grammar.specs.Outcomes.{and_then, pure, ◌<$>◌}
+use Rattle.cc_grammar.specs.Reading.{placed, skipping, enclosed, readers, value, given}
+use Rattle.cc_parse_laws.proofs.Spans.{Reads}
+use Rattle.cc_parse_laws.proofs.Steps.{map_ok, ok_is, branched, next_reads}
 use Rattle.cc_parse_laws.proofs.Lists.{IsSound, Others, Separated, Enclosed, Braced, enclosed_sound}
 use Rattle.cc_parse_laws.proofs.Inner.{SoundInner}
 use Rattle.cc_parse_laws.proofs.Endings.{Gives}
@@ -82,6 +82,6 @@ module _ (readers_sound : (names : Names) (d : ℕ) → SoundInner names (reader
             let m = map_ok (value names d (skip ts)) Some x c.1 in
             let s = value_sound names d (skip ts) m.0 m.1 in
             subst (Gives (ReadsGiven names d) ts) m.2
-              (next_reads p.Equal None (o.within (o.value names m.0.0) ▸ end) d ts m.0.1 c.0 tt (m.0.1, tt, s, refl))
+            (next_reads p.Equal None (o.within (o.value names m.0.0) ▸ end) d ts m.0.1 c.0 tt (m.0.1, tt, s, refl))
         | inr c ↦ subst (Gives (ReadsGiven names d) ts) (ok_is (None, ts) x c.1) refl
       ]
