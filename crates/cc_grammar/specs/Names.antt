@@ -17,6 +17,10 @@ abbrev pub is_typedef_word : SpecWord → Bool
 is_typedef_word w.Typedef = true
 is_typedef_word _ = false
 
+-- with this name too, once
+abbrev pub added : Name → Names → Names
+added x names = if is_type names x then names else x ∷ names
+
 -- what is written as `typedef` itself, not inside of a struct
 abbrev pub is_typedef : {N : Type 0} → SpecTree N → Bool
 is_typedef (word n k) = is_typedef_word k
@@ -29,7 +33,7 @@ has_typedef no_specs = false
 has_typedef (more_specs s ss) = is_typedef s || has_typedef ss
 
 abbrev pub with_declared : {N : Type 0} → DeclTree N → Names → Names
-with_declared (declared n x) names = x ∷ names
+with_declared (declared n x) names = added x names
 with_declared nameless names = names
 with_declared (pointer n k d) names = with_declared d names
 with_declared (array n d length) names = with_declared d names
