@@ -32,6 +32,7 @@ ReadsItem names d i ts r = Reads (o.item names i) d ts r
 abbrev pub ReadsBlock : Names → ℕ → BlockTree Spot → List Token → List Token → Type 0
 ReadsBlock names d b ts r = Reads (o.block_of names b) d ts r
 
+-- a block, where a statement was read
 only_block_sound : (s : StmtTree Spot) (ts : List Token) (x : BlockTree Spot × List Token) → only_block s ts ≡ Ok x → (s ≡ compound x.0) × (ts ≡ x.1)
 only_block_sound (compound b) ts x e = (cc, cc)
 only_block_sound _ ts x e = absurd cc
@@ -51,8 +52,8 @@ module _ (readers_sound : (names : Names) (d : ℕ) → SoundInner names (reader
   case_sound zero names ts x opening e = absurd cc
   case_sound (suc d) names ts x opening e =
       let c = expr_then readers_sound names d 3 (omega arith) p.Colon (case_label (spot ts)) (skip ts) x e in
-      subst (Gives (ReadsItem names (suc d)) ts) c.2
-      (x.1, tt, next_key_reads k.Case (Some (spot ts)) (o.operand 3 c.0 (o.expr names c.0) ▸ o.sign p.Colon ▸ end) d ts x.1 opening refl (c.3 end x.1 refl), refl)
+      subst (Gives (ReadsItem names (suc d)) ts) c.1
+      (x.1, tt, next_key_reads k.Case (Some (spot ts)) (o.operand 3 c.0 (o.expr names c.0) ▸ o.sign p.Colon ▸ end) d ts x.1 opening refl (c.2 end x.1 refl), refl)
 
   default_sound : (d : ℕ) (names : Names) (ts : List Token) (x : ItemTree Spot × List Token) → next_is_key k.Default ts ≡ true
       → counted_by d (λ e. skipping (take p.Colon >> pure (default_label (spot ts)))) ts ≡ Ok x → ReadsItem names d x.0 ts x.1

@@ -29,12 +29,12 @@ ReadsStart names d y ts r = Reads (o.start_of names y) d ts r
 module _ (readers_sound : (names : Names) (d : ℕ) → SoundInner names (readers names d) d) where
   -- an expression and the token behind it
   pub expr_then : {A : Type 0} (names : Names) (d least : ℕ) → least ≤ 15 → (s : Punct) (f : ExprTree Spot → A) (ts : List Token) (x : A × List Token) → and_then ((readers names d).expr least ts) (λ e. take s >> pure (f e)) ≡ Ok x
-      → (e : ExprTree Spot) × (m : List Token) × ((f e, x.1) ≡ x) × Leads (λ j. o.operand least e (o.expr names e) ▸ o.sign s ▸ j) d ts x.1 × (o.begins e ≡ spot ts)
+      → (e : ExprTree Spot) × ((f e, x.1) ≡ x) × Leads (λ j. o.operand least e (o.expr names e) ▸ o.sign s ▸ j) d ts x.1 × (o.begins e ≡ spot ts)
   expr_then names d least l s f ts x e =
       let a = bind_ok ((readers names d).expr least ts) (λ y. take s >> pure (f y)) x e in
       let first = (readers_sound names d).expr least l ts a.0 a.1 in
       let t = taken s (f a.0.0) d a.0.1 x a.2 in
-      (a.0.0, a.0.1, t.0, λ j r h. (a.0.1, first.0, first.1, t.1 j r h), operand_begins names a.0.0 d ts a.0.1 first.1)
+      (a.0.0, t.0, λ j r h. (a.0.1, first.0, first.1, t.1 j r h), operand_begins names a.0.0 d ts a.0.1 first.1)
 
   start_declares_sound : (d : ℕ) (names : Names) → IsSound (counted_by d (λ e. start_declaration <$> declaration_at e names)) (ReadsStart names d)
   start_declares_sound zero names ts x e = absurd cc
@@ -72,7 +72,7 @@ module _ (readers_sound : (names : Names) (d : ℕ) → SoundInner names (reader
           | inl c ↦ subst (Gives (ReadsStart names d) ts) (ok_is (no_start, skip ts) x c.1) (next_reads p.Semicolon None end d ts (skip ts) c.0 tt refl)
           | inr c ↦
               let s = expr_then names d 1 (omega arith) p.Semicolon start_expr ts x c.1 in
-              subst (Gives (ReadsStart names d) ts) s.2 (s.3 end x.1 refl)
+              subst (Gives (ReadsStart names d) ts) s.1 (s.2 end x.1 refl)
         ]
 
     pub start_sound : (names : Names) → IsSound (start_clause inner d names) (ReadsStart names d)

@@ -42,7 +42,7 @@ ReadsDeclaration names d x ts r = o.declaration_spot x × Reads (o.declaration_o
 
 module _ (readers_sound : (names : Names) (d : ℕ) → SoundInner names (readers names d) d) where
   -- The declarator that was read before begins at `from`.
-  inits_behind_sound : (d : ℕ) (typedef : Bool) (turns : ℕ) (names : Names) (f : DeclTree Spot) (from ts : List Token) (x : List (InitTree Spot) × List Token) → o.is_named f ≡ true → ReadsDeclarator names d f from ts
+  pub inits_behind_sound : (d : ℕ) (typedef : Bool) (turns : ℕ) (names : Names) (f : DeclTree Spot) (from ts : List Token) (x : List (InitTree Spot) × List Token) → o.is_named f ≡ true → ReadsDeclarator names d f from ts
       → inits_behind d typedef turns names f ts ≡ Ok x → ReadsInits names typedef d x.0 from x.1
   inits_behind_sound d typedef zero names f from ts x named there e = absurd cc
   inits_behind_sound d typedef (suc turns) names f from ts x named there e =

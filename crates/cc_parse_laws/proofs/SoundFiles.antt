@@ -11,7 +11,7 @@ use Rattle.cc_grammar.specs.Names.{Names, has_typedef, after_external}
 use Rattle.cc_grammar.specs.Classes.{next_is, skip, spot}
 use Rattle.cc_grammar.specs.Outcomes.{Parser, ◌>>=◌, ◌>>◌, pure, ◌<$>◌, take}
 use Rattle.cc_grammar.specs.Reading as reads
-use Rattle.cc_grammar.specs.Reading.{branch, where_next, placed, skipping, with_name, readers, spot_or, inits, body, external_behind, external, ended, externals_by, reading}
+use Rattle.cc_grammar.specs.Reading.{where_next, skipping, with_name, readers, spot_or, inits, body, external_behind, external, ended, externals_by, reading}
 use Rattle.cc_parse_laws.proofs.Spans.{Reads, reads_hold, reads_depth, reads_spell}
 use Rattle.cc_parse_laws.proofs.Steps.{bind_ok, map_ok, ok_is, branched, next_reads}
 use Rattle.cc_parse_laws.proofs.Lists.{IsSound}

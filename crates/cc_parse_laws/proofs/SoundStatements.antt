@@ -14,7 +14,7 @@ use Rattle.cc_grammar.specs.Names.{Names, after_start, after_stmt}
 use Rattle.cc_grammar.specs.Classes.{next_is, next_is_key, skip, spot, StmtStart, begins_block, begins_empty, begins_if, begins_switch, begins_while, begins_do, begins_for, begins_break, begins_continue, begins_return, begins_case, begins_default, begins_other, stmt_start}
 use Rattle.cc_grammar.specs.Outcomes.{Parser, and_then, ◌>>=◌, ◌>>◌, pure, ◌<$>◌, take, take_key}
 use Rattle.cc_grammar.specs.Reading as reads
-use Rattle.cc_grammar.specs.Reading.{branch, where_next, placed, skipping, readers, declaration_at, counted_by, only_block, body, label_by, item, items_by, items, condition, else_behind, clause_until, start_expr_behind, start_clause, for_behind, stmt_by}
+use Rattle.cc_grammar.specs.Reading.{skipping, readers, body, items, condition, else_behind, clause_until, start_clause, for_behind, stmt_by}
 use Rattle.cc_parse_laws.proofs.Spans.{Reads}
 use Rattle.cc_parse_laws.proofs.Steps.{bind_ok, map_ok, ok_is, branched, next_reads, next_key_reads, take_reads, take_key_reads}
 use Rattle.cc_parse_laws.proofs.Lists.{IsSound}
@@ -182,8 +182,8 @@ module _ (readers_sound : (names : Names) (d : ℕ) → SoundInner names (reader
     other_sound : (names : Names) (ts : List Token) (x : StmtTree Spot × List Token) → stmt_by inner d begins_other names (spot ts) ts ≡ Ok x → ReadsStmt names (suc d) x.0 ts x.1
     other_sound names ts x e =
         let s = expr_then readers_sound names d 1 (omega arith) p.Semicolon (plain (spot ts)) ts x e in
-        subst (Gives (ReadsStmt names (suc d)) ts) s.2
-        (record { there = (x.1, sym s.4, s.3 end x.1 refl, refl); closed = λ h. absurd cc })
+        subst (Gives (ReadsStmt names (suc d)) ts) s.1
+        (record { there = (x.1, sym s.3, s.2 end x.1 refl, refl); closed = λ h. absurd cc })
 
     by_sound : (b : StmtStart) (names : Names) (ts : List Token) (x : StmtTree Spot × List Token) → Opens b ts → stmt_by inner d b names (spot ts) ts ≡ Ok x → ReadsStmt names (suc d) x.0 ts x.1
     by_sound begins_block names ts x opening e = block_sound names ts x opening e
