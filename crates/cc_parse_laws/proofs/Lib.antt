@@ -1,5 +1,7 @@
 pub mod Depths
+pub mod FirstTokens
 pub mod Inner
 pub mod Lists
+pub mod Nexts
 pub mod Spans
 pub mod Steps
