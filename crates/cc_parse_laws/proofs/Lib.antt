@@ -1,5 +1,6 @@
 pub mod Depths
 pub mod Inner
 pub mod Lists
+pub mod Peeks
 pub mod Spans
 pub mod Steps
