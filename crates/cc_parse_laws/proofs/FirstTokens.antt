@@ -21,7 +21,8 @@ use Rattle.cc_grammar.specs.Outcomes.{Outcome, Parser, and_then, refuse, pure}
 use Rattle.cc_grammar.specs.Reading.{Inner, no_inner, skipping, id_by, id, prefix, climb, expression, readers}
 use Rattle.cc_parse_laws.proofs.Spans.{Inside, Reads}
 use Rattle.cc_parse_laws.proofs.Steps.{bind_ok, map_ok, branched, reads_next, reads_length}
-use Rattle.cc_parse_laws.proofs.Nexts.{sign_next, sign_no_spec, BeginsExpr, begins_expr}
+use Rattle.cc_parse_laws.proofs.Peeks.{sign_other, sign_spec}
+use Rattle.cc_parse_laws.proofs.Nexts.{BeginsExpr, begins_expr}
 
 pub inside_gives : (c : Bool) (P : ℕ → Type 0) (Q : Type 0) → ((e : ℕ) → P e → Q) → (d : ℕ) → Inside c P d → Q
 inside_gives false P Q give d x = give d x
@@ -132,7 +133,7 @@ pub record BeginsDeclarator (names : Names) (ts : List Token) : Type 0 where
 sign_begins : (names : Names) (s : Punct) (n : Option Spot) (i : Outline) (d : ℕ) (ts r : List Token) → Reads (token (Unit {0}) (kind.Punct s) n i) d ts r → (next_is s ts ≡ true → (next_is p.LeftBrace ts ≡ false) × (next_is p.Semicolon ts ≡ false)) → BeginsDeclarator names ts
 sign_begins names s n i d ts r x without =
     let is : next_is s ts ≡ true = reads_next (Unit {0}) s n i d ts r x in
-    record { no_spec = sign_no_spec names s ts is; no_brace = (without is).0; no_semicolon = (without is).1 }
+    record { no_spec = sign_spec names s ts is; no_brace = (without is).0; no_semicolon = (without is).1 }
 
 name_spec : (names : Names) (x : Name) → is_type names x ≡ false → is_spec (spec_kind names (kind.Identifier x)) ≡ false
 name_spec names x e = rw e refl
@@ -150,10 +151,10 @@ pub declarator_first : (names : Names) (f : DeclTree Spot) (d : ℕ) (ts r : Lis
 declarator_first names (declared n y) d ts r h x = name_begins names (Some n) y end d ts r x
 declarator_first names nameless d ts r h x = absurd cc
 declarator_first names (pointer n c f) d ts r h x =
-    sign_begins names p.Star (o.opening_spot f n) (o.within (o.consts c) (o.any_one f (o.declarator names f) end)) d ts x.0 x.2 (λ e. (sign_next p.Star p.LeftBrace ts e, sign_next p.Star p.Semicolon ts e))
+    sign_begins names p.Star (o.opening_spot f n) (o.within (o.consts c) (o.any_one f (o.declarator names f) end)) d ts x.0 x.2 (λ e. (sign_other p.LeftBrace p.Star ts refl e, sign_other p.Semicolon p.Star ts refl e))
 declarator_first names (array n f e) d ts r h x =
     inside_gives (o.is_written f) (λ g. Reads (o.declarator names f) g ts x.2.0) (BeginsDeclarator names ts) (λ g y. declarator_first names f g ts x.2.0 h y) d x.2.2
 declarator_first names (function n f ps) d ts r h x =
     inside_gives (o.is_written f) (λ g. Reads (o.declarator names f) g ts x.2.0) (BeginsDeclarator names ts) (λ g y. declarator_first names f g ts x.2.0 h y) d x.2.2
 declarator_first names (grouped n f) d ts r h x =
-    sign_begins names p.LeftParen (o.opening_spot f n) (part (o.is_written f) (o.is_written f ≡ true) (o.declarator names f) (o.sign p.RightParen end)) d ts x.0 x.2 (λ e. (sign_next p.LeftParen p.LeftBrace ts e, sign_next p.LeftParen p.Semicolon ts e))
+    sign_begins names p.LeftParen (o.opening_spot f n) (part (o.is_written f) (o.is_written f ≡ true) (o.declarator names f) (o.sign p.RightParen end)) d ts x.0 x.2 (λ e. (sign_other p.LeftBrace p.LeftParen ts refl e, sign_other p.Semicolon p.LeftParen ts refl e))

@@ -149,3 +149,37 @@ repeated_by_sound {A} more read P sound (suc turns) ts x e =
 
 pub repeated_sound : {A : Type 0} (more : List Token → Bool) (read : Parser A) (P : Span A) → IsSound read P → IsSound (repeated more read) (Repeated more P)
 repeated_sound more read P sound ts x e = repeated_by_sound more read P sound (length ts) ts x e
+
+-- ---- Read back
+
+pub all_again : {A : Type 0} (read : Parser A) (P : Span A) (Follows : List Token → Type 0) → ((x : A) → Again read P Follows x) → (xs : List A) → AllAgain read P Follows xs
+all_again read P Follows again [] = tt
+all_again read P Follows again (x ∷ xs) = (again x, all_again read P Follows again xs)
+
+-- each item has a token
+abbrev pub Shorter : {A : Type 0} → Span A → Type 0
+Shorter {A} P = (x : A) (ts r : List Token) → P x ts r → length r < length ts
+
+skip_length : (ts : List Token) → length (skip ts) ≤ length ts
+skip_length [] = omega arith
+skip_length (t ∷ ts) = omega arith
+
+module _ {A : Type 0} (read : Parser A) (P : Span A) (Follows : List Token → Type 0) (again : (x : A) → Again read P Follows x) (shorter : Shorter P) where
+  -- an item takes one turn
+  others_length : (xs : List A) (ts r : List Token) → Others P xs ts r → length xs + length r ≤ length ts
+  others_length [] ts r o = omega (arith, ap length o)
+  others_length (x ∷ xs) ts r o = omega (arith, skip_length ts, shorter x (skip ts) o.0 o.2, others_length xs o.0 r o.3)
+
+  following_length : (more : List Token → Bool) (xs : List A) (ts r : List Token) → Following more P xs ts r → length xs + length r ≤ length ts
+  following_length more [] ts r o = omega (arith, ap length o)
+  following_length more (x ∷ xs) ts r o = omega (arith, shorter x ts o.0 o.2, following_length more xs o.0 r o.3)
+
+  pub separated_again : (comma : (ts : List Token) → next_is p.Comma ts ≡ true → Follows ts) (xs : List A) (ts r : List Token) → Separated P xs ts r → next_is p.Comma r ≡ false → Follows r → separated read ts ≡ Ok (xs, r)
+  separated_again comma [] ts r s e f = absurd s
+  separated_again comma (x ∷ xs) ts r s e f =
+      separated_by_again read P Follows comma xs x ts s.0 r (length ts) (again x) (all_again read P Follows again xs) s.1 s.2 e f (omega (arith, shorter x ts s.0 s.1, others_length xs s.0 r s.2))
+
+  -- the end of a list in braces
+  abbrev Closes : Bool → List Token → List Token → Type 0
+  Closes true q r = (next_is p.Comma q ≡ true) × (next_is p.RightBrace (skip q) ≡ true) × (skip (skip q) ≡ r)
+  Closes false q r = (next_is p.RightBrace q ≡ true) × (skip q ≡ r)

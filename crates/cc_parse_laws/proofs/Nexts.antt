@@ -1,4 +1,4 @@
--- What the next token tells of the classes that it is in.
+-- What a keyword that comes next tells, the first token of a specifier, and that of an expression.
 use Rattle.std.proofs.Common.{◌≡◌, ◌≤◌, ◌<◌, ◌+◌, refl, ℕ, zero, suc, Bool, true, false, List, [], ◌∷◌, Option, Some, None, if◌then◌else◌, arith, sym, ap, ◌∙◌, subst}
 use Rattle.cc_lex.specs.declared.token.Token.{Token}
 use Rattle.cc_lex.specs.declared.token.TokenKind.{TokenKind}
@@ -10,63 +10,31 @@ use Rattle.cc_lex.specs.declared.punct.Punct.TheVariants as p
 use Rattle.cc_syntax.specs.Trees.{Name}
 use Rattle.cc_grammar.specs.Names.{Names, is_type}
 use Rattle.cc_grammar.specs.Classes.{same_punct, same_keyword, is_punct, is_keyword, next_is, next_is_key, ident, next_ident, Start, begins_nothing, start_sign, start_key, start_kind, start, tail_sign, tail_kind, tail, binds, SpecStart, no_spec, spec_key, spec_kind, spec_start, is_spec, starts_spec, StmtStart, begins_other, stmt_sign, stmt_key, stmt_kind, stmt_start}
-use Rattle.cc_parse_laws.proofs.Inner.{Ends, EndsSpecs, EndsDeclarator}
 use Rattle.cc_parse_laws.proofs.Steps.{punct_kind, keyword_kind}
+use Rattle.cc_parse_laws.proofs.Peeks.{at_sign}
 
 -- ---- A punctuator
 
-pub sign_tail : (s : Punct) (ts : List Token) → next_is s ts ≡ true → tail ts ≡ tail_sign s
-sign_tail s [] e = absurd cc
-sign_tail s (t ∷ ts) e = ap tail_kind (punct_kind s t.kind e)
-
-pub sign_next : (s q : Punct) (ts : List Token) → next_is s ts ≡ true → next_is q ts ≡ same_punct q s
-sign_next s q [] e = absurd cc
-sign_next s q (t ∷ ts) e = ap (is_punct q) (punct_kind s t.kind e)
-
-pub sign_no_key : (s : Punct) (w : Keyword) (ts : List Token) → next_is s ts ≡ true → next_is_key w ts ≡ false
-sign_no_key s w [] e = absurd cc
-sign_no_key s w (t ∷ ts) e = ap (is_keyword w) (punct_kind s t.kind e)
-
-pub sign_no_ident : (s : Punct) (ts : List Token) → next_is s ts ≡ true → next_ident ts ≡ None
-sign_no_ident s [] e = absurd cc
-sign_no_ident s (t ∷ ts) e = ap ident (punct_kind s t.kind e)
-
-pub sign_no_spec : (names : Names) (s : Punct) (ts : List Token) → next_is s ts ≡ true → starts_spec names ts ≡ false
-sign_no_spec names s [] e = absurd cc
-sign_no_spec names s (t ∷ ts) e = ap (λ x. is_spec (spec_kind names x)) (punct_kind s t.kind e)
-
 pub sign_stmt : (s : Punct) (ts : List Token) → next_is s ts ≡ true → stmt_start ts ≡ stmt_sign s
-sign_stmt s [] e = absurd cc
-sign_stmt s (t ∷ ts) e = ap stmt_kind (punct_kind s t.kind e)
-
--- what may end an expression, specifiers or a declarator
-pub sign_ends : (least : ℕ) (s : Punct) (ts : List Token) → next_is s ts ≡ true → binds (tail_sign s) < least → Ends least ts
-sign_ends least s ts e h = subst (λ x. binds x < least) (sym (sign_tail s ts e)) h
-
-pub sign_ends_specs : (names : Names) (s : Punct) (ts : List Token) → next_is s ts ≡ true → same_punct p.LeftBrace s ≡ false → EndsSpecs names ts
-sign_ends_specs names s ts e h = record { no_spec = sign_no_spec names s ts e; no_brace = sign_next s p.LeftBrace ts e ∙ h }
-
-pub sign_ends_declarator : (s : Punct) (ts : List Token) → next_is s ts ≡ true → same_punct p.LeftBracket s ≡ false → same_punct p.LeftParen s ≡ false → same_punct p.Star s ≡ false → EndsDeclarator ts
-sign_ends_declarator s ts e a b c =
-    record { no_bracket = sign_next s p.LeftBracket ts e ∙ a; no_paren = sign_next s p.LeftParen ts e ∙ b; no_star = sign_next s p.Star ts e ∙ c; no_name = sign_no_ident s ts e }
+sign_stmt s ts e = at_sign stmt_start stmt_kind (λ t us. refl) s ts e
 
 -- ---- A keyword
 
-pub key_next : (w v : Keyword) (ts : List Token) → next_is_key w ts ≡ true → next_is_key v ts ≡ same_keyword v w
-key_next w v [] e = absurd cc
-key_next w v (t ∷ ts) e = ap (is_keyword v) (keyword_kind w t.kind e)
+pub at_key : {B : Type 0} (f : List Token → B) (g : TokenKind → B) → ((t : Token) (ts : List Token) → f (t ∷ ts) ≡ g t.kind) → (w : Keyword) (ts : List Token) → next_is_key w ts ≡ true → f ts ≡ g (kind.Keyword w)
+at_key f g same w [] e = absurd cc
+at_key f g same w (t ∷ ts) e = same t ts ∙ ap g (keyword_kind w t.kind e)
 
-pub key_no_sign : (w : Keyword) (q : Punct) (ts : List Token) → next_is_key w ts ≡ true → next_is q ts ≡ false
-key_no_sign w q [] e = absurd cc
-key_no_sign w q (t ∷ ts) e = ap (is_punct q) (keyword_kind w t.kind e)
+pub key_other : (v w : Keyword) (ts : List Token) → same_keyword v w ≡ false → next_is_key w ts ≡ true → next_is_key v ts ≡ false
+key_other v w ts other e = at_key (next_is_key v) (is_keyword v) (λ t us. refl) w ts e ∙ other
 
-pub key_no_spec : (names : Names) (w : Keyword) (ts : List Token) → next_is_key w ts ≡ true → spec_key w ≡ no_spec → starts_spec names ts ≡ false
-key_no_spec names w [] e h = absurd cc
-key_no_spec names w (t ∷ ts) e h = ap (λ x. is_spec (spec_kind names x)) (keyword_kind w t.kind e) ∙ ap is_spec h
+pub key_sign : (q : Punct) (w : Keyword) (ts : List Token) → next_is_key w ts ≡ true → next_is q ts ≡ false
+key_sign q w ts e = at_key (next_is q) (is_punct q) (λ t us. refl) w ts e
+
+pub key_spec : (names : Names) (w : Keyword) (ts : List Token) → is_spec (spec_key w) ≡ false → next_is_key w ts ≡ true → starts_spec names ts ≡ false
+key_spec names w ts other e = at_key (starts_spec names) (λ c. is_spec (spec_kind names c)) (λ t us. refl) w ts e ∙ other
 
 pub key_stmt : (w : Keyword) (ts : List Token) → next_is_key w ts ≡ true → stmt_start ts ≡ stmt_key w
-key_stmt w [] e = absurd cc
-key_stmt w (t ∷ ts) e = ap stmt_kind (keyword_kind w t.kind e)
+key_stmt w ts e = at_key stmt_start stmt_kind (λ t us. refl) w ts e
 
 -- ---- A specifier
 
