@@ -4,5 +4,6 @@ pub mod Inner
 pub mod Lists
 pub mod Nexts
 pub mod Peeks
+pub mod Pieces
 pub mod Spans
 pub mod Steps
