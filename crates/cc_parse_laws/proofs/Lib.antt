@@ -1,3 +1,4 @@
+pub mod CompleteValues
 pub mod Depths
 pub mod FirstTokens
 pub mod Inner

@@ -119,7 +119,7 @@ kind_no_else (kind.Integer v c) h = refl
 kind_no_else (kind.Character v) h = refl
 kind_no_else (kind.Str bytes) h = refl
 
-unlike : (b : Bool) → (b ≡ true → ⊥) → b ≡ false
+pub unlike : (b : Bool) → (b ≡ true → ⊥) → b ≡ false
 unlike true h = absurd (h refl)
 unlike false h = refl
 

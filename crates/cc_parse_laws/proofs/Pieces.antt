@@ -5,17 +5,18 @@ use Rattle.cc_tree.specs.declared.place.Spot.{Spot}
 use Rattle.cc_lex.specs.declared.token.Token.{Token}
 use Rattle.cc_lex.specs.declared.token.TokenKind.{TokenKind}
 use Rattle.cc_lex.specs.declared.token.TokenKind.TheVariants as kind
+use Rattle.cc_lex.specs.declared.keyword.Keyword.{Keyword}
 use Rattle.cc_lex.specs.declared.punct.Punct.{Punct}
 use Rattle.cc_lex.specs.declared.punct.Punct.TheVariants as p
 use Rattle.cc_syntax.specs.Trees.{ExprTree, StmtTree}
-use Rattle.cc_grammar.specs.Outline.{Outline, end, token, part}
+use Rattle.cc_grammar.specs.Outline.{Outline, end, token, part, Stands}
 use Rattle.cc_grammar.specs.Outlines as o
 use Rattle.cc_grammar.specs.Names.{Names}
-use Rattle.cc_grammar.specs.Classes.{next_is, skip, tail_sign, binds}
-use Rattle.cc_grammar.specs.Outcomes.{Outcome, Parser, and_then, take, ◌>>=◌, ◌>>◌, pure}
+use Rattle.cc_grammar.specs.Classes.{next_is, next_is_key, skip, spot, tail_sign, binds}
+use Rattle.cc_grammar.specs.Outcomes.{Outcome, Parser, and_then, take, take_key, ◌>>=◌, ◌>>◌, pure}
 use Rattle.cc_grammar.specs.Reading.{Inner, readers, condition}
 use Rattle.cc_parse_laws.proofs.Spans.{Inside, Reads}
-use Rattle.cc_parse_laws.proofs.Steps.{next_token, reads_next, reads_take}
+use Rattle.cc_parse_laws.proofs.Steps.{next_token, reads_next, reads_next_key, reads_take, reads_take_key}
 use Rattle.cc_parse_laws.proofs.Inner.{CompleteInner, Ends}
 use Rattle.cc_parse_laws.proofs.Peeks.{sign_ends}
 
@@ -23,15 +24,49 @@ use Rattle.cc_parse_laws.proofs.Peeks.{sign_ends}
 pub record Got {A : Type 0} (read : Parser A) (a : A) (o : Outline) (d : ℕ) (ts r : List Token) : Type 0 where
   pub rest : List Token
   pub reads : read ts ≡ Ok (a, rest)
-  pub after : Reads o d rest r
+  pub then : Reads o d rest r
 
--- what comes after a token
-pub behind : (h : Type 0) (k : TokenKind) (n : Option Spot) (i : Outline) (d : ℕ) (ts r : List Token) → Reads (token h k n i) d ts r → Reads i d (skip ts) r
-behind h k n i d ts r x = (next_token h k n i d ts r x).after
+-- what comes after the first of an outline, and what is in it
+abbrev pub after : Outline → Outline
+after end = end
+after (token h k n i) = i
+after (part c h i o) = o
 
--- a punctuator is read
-pub got_sign : (s : Punct) (n : Option Spot) (i : Outline) (d : ℕ) (ts r : List Token) → Reads (token (Unit {0}) (kind.Punct s) n i) d ts r → Got (take s) tt i d ts r
-got_sign s n i d ts r x = record { rest = skip ts; reads = reads_take (Unit {0}) s n i d ts r x; after = behind (Unit {0}) (kind.Punct s) n i d ts r x }
+abbrev pub inside : Outline → Outline
+inside end = end
+inside (token h k n i) = end
+inside (part c h i o) = i
+
+-- a punctuator comes next, or a keyword
+pub record Comes (s : Punct) (n : Option Spot) (i : Outline) (d : ℕ) (ts r : List Token) : Type 0 where
+  pub is : next_is s ts ≡ true
+  pub taken : take s ts ≡ Ok (tt, skip ts)
+  pub at : Stands n (spot ts)
+  pub then : Reads i d (skip ts) r
+
+pub comes : (s : Punct) (n : Option Spot) (i : Outline) (d : ℕ) (ts r : List Token) → Reads (token (Unit {0}) (kind.Punct s) n i) d ts r → Comes s n i d ts r
+comes s n i d ts r x =
+    let t = next_token (Unit {0}) (kind.Punct s) n i d ts r x in
+    record { is = reads_next (Unit {0}) s n i d ts r x; taken = reads_take (Unit {0}) s n i d ts r x; at = t.at; then = t.after }
+
+pub record ComesKey (w : Keyword) (n : Option Spot) (h : Type 0) (i : Outline) (d : ℕ) (ts r : List Token) : Type 0 where
+  pub holds : h
+  pub is : next_is_key w ts ≡ true
+  pub taken : take_key w ts ≡ Ok (tt, skip ts)
+  pub at : Stands n (spot ts)
+  pub then : Reads i d (skip ts) r
+
+pub comes_key : (w : Keyword) (n : Option Spot) (h : Type 0) (i : Outline) (d : ℕ) (ts r : List Token) → Reads (token h (kind.Keyword w) n i) d ts r → ComesKey w n h i d ts r
+comes_key w n h i d ts r x =
+    let t = next_token h (kind.Keyword w) n i d ts r x in
+    record { holds = t.holds; is = reads_next_key h w n i d ts r x; taken = reads_take_key h w n i d ts r x; at = t.at; then = t.after }
+
+-- the last part of an outline ends with it
+pub only : (i : Outline) (d : ℕ) (ts r : List Token) → Reads (o.within i end) d ts r → Reads i d ts r
+only i d ts r x = subst (λ m. Reads i d ts m) x.3 x.2
+
+pub only_counted : (h : Type 0) (i : Outline) (d : ℕ) (ts r : List Token) → Reads (part true h i end) d ts r → h × Inside true (λ e. Reads i e ts r) d
+only_counted h i d ts r x = (x.1, subst (λ m. Inside true (λ e. Reads i e ts m) d) x.3 x.2)
 
 -- a step before another
 pub chain : {A B : Type 0} (read : Parser A) (f : A → Parser B) (ts m : List Token) (a : A) (y : Outcome B) → read ts ≡ Ok (a, m) → f a m ≡ y → and_then (read ts) f ≡ y
@@ -43,13 +78,13 @@ module _ (readers_complete : (names : Names) (d : ℕ) → CompleteInner names (
       → Reads (o.operand least e (o.expr names e) (o.sign s i)) d ts r → Got ((readers names d).expr least) e (o.sign s i) d ts r
   got_expr names d least e s i ts r h x =
       let ends : Ends least x.0 = sign_ends least s x.0 h (reads_next (Unit {0}) s None i d x.0 r x.3) in
-      record { rest = x.0; reads = (readers_complete names d).expr least e ts x.0 x.1 x.2 ends; after = x.3 }
+      record { rest = x.0; reads = (readers_complete names d).expr least e ts x.0 x.1 x.2 ends; then = x.3 }
 
   -- an expression in parentheses
   pub got_condition : (inner : Names → Parser (StmtTree Spot)) (names : Names) (d : ℕ) (c : ExprTree Spot) (i : Outline) (ts r : List Token)
       → Reads (o.sign p.LeftParen (o.operand 1 c (o.expr names c) (o.sign p.RightParen i))) d ts r → Got (condition inner d names) c i d ts r
   got_condition inner names d c i ts r x =
-      let a = got_sign p.LeftParen None (o.operand 1 c (o.expr names c) (o.sign p.RightParen i)) d ts r x in
-      let e = got_expr names d 1 c p.RightParen i a.rest r (omega arith) a.after in
-      let b = got_sign p.RightParen None i d e.rest r e.after in
-      record { rest = b.rest; reads = rw (a.reads, e.reads, b.reads) refl; after = b.after }
+      let a = comes p.LeftParen None (o.operand 1 c (o.expr names c) (o.sign p.RightParen i)) d ts r x in
+      let e = got_expr names d 1 c p.RightParen i (skip ts) r (omega arith) a.then in
+      let b = comes p.RightParen None i d e.rest r e.then in
+      record { rest = skip e.rest; reads = rw (a.taken, e.reads, b.taken) refl; then = b.then }
