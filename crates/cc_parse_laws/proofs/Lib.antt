@@ -1,3 +1,4 @@
+pub mod CompleteDeclarations
 pub mod CompleteValues
 pub mod Depths
 pub mod FirstTokens

@@ -8,16 +8,16 @@ use Rattle.cc_lex.specs.declared.token.TokenKind.TheVariants as kind
 use Rattle.cc_lex.specs.declared.keyword.Keyword.{Keyword}
 use Rattle.cc_lex.specs.declared.punct.Punct.{Punct}
 use Rattle.cc_lex.specs.declared.punct.Punct.TheVariants as p
-use Rattle.cc_syntax.specs.Trees.{ExprTree, StmtTree}
+use Rattle.cc_syntax.specs.Trees.{ExprTree, SpecTrees, DeclTree, StmtTree}
 use Rattle.cc_grammar.specs.Outline.{Outline, end, token, part, Stands}
 use Rattle.cc_grammar.specs.Outlines as o
 use Rattle.cc_grammar.specs.Names.{Names}
 use Rattle.cc_grammar.specs.Classes.{next_is, next_is_key, skip, spot, tail_sign, binds}
 use Rattle.cc_grammar.specs.Outcomes.{Outcome, Parser, and_then, take, take_key, ◌>>=◌, ◌>>◌, pure}
-use Rattle.cc_grammar.specs.Reading.{Inner, readers, condition}
+use Rattle.cc_grammar.specs.Reading.{Inner, readers, with_name, condition}
 use Rattle.cc_parse_laws.proofs.Spans.{Inside, Reads}
 use Rattle.cc_parse_laws.proofs.Steps.{next_token, reads_next, reads_next_key, reads_take, reads_take_key}
-use Rattle.cc_parse_laws.proofs.Inner.{CompleteInner, Ends}
+use Rattle.cc_parse_laws.proofs.Inner.{CompleteInner, Ends, EndsSpecs, EndsDeclarator}
 use Rattle.cc_parse_laws.proofs.Peeks.{sign_ends}
 
 -- a step reads this, and the rest of the outline is what comes after
@@ -79,6 +79,15 @@ module _ (readers_complete : (names : Names) (d : ℕ) → CompleteInner names (
   got_expr names d least e s i ts r h x =
       let ends : Ends least x.0 = sign_ends least s x.0 h (reads_next (Unit {0}) s None i d x.0 r x.3) in
       record { rest = x.0; reads = (readers_complete names d).expr least e ts x.0 x.1 x.2 ends; then = x.3 }
+
+  pub got_specs : (names : Names) (d : ℕ) (ss : SpecTrees Spot) (n : Spot) (i : Outline) (ts r : List Token) → o.BeginAt ss n → ((m : List Token) → Reads i d m r → EndsSpecs names m)
+      → Reads (o.within (o.specs names ss) i) d ts r → Got (readers names d).specs ss i d ts r
+  got_specs names d ss n i ts r b ends x = record { rest = x.0; reads = (readers_complete names d).specs ss n ts x.0 b x.2 (ends x.0 x.3); then = x.3 }
+
+  -- a declarator with a name
+  pub got_declarator : (names : Names) (d : ℕ) (f : DeclTree Spot) (i : Outline) (ts r : List Token) → ((m : List Token) → Reads i d m r → EndsDeclarator m)
+      → Reads (o.named_one f (o.declarator names f) i) d ts r → Got ((readers names d).declarator with_name) f i d ts r
+  got_declarator names d f i ts r ends x = record { rest = x.0; reads = (readers_complete names d).declarator with_name f ts x.0 x.1 x.2 (ends x.0 x.3); then = x.3 }
 
   -- an expression in parentheses
   pub got_condition : (inner : Names → Parser (StmtTree Spot)) (names : Names) (d : ℕ) (c : ExprTree Spot) (i : Outline) (ts r : List Token)
