@@ -1,4 +1,5 @@
 pub mod Depths
+pub mod Firsts
 pub mod Inner
 pub mod Lists
 pub mod Peeks

@@ -15,6 +15,17 @@ use Rattle.cc_parse_laws.proofs.Spans.{Reads}
 use Rattle.cc_parse_laws.proofs.Steps.{punct_kind}
 use Rattle.cc_parse_laws.proofs.Inner.{Ends, EndsSpecs, EndsDeclarator}
 
+-- what comes after the first of an outline, and what is in it
+abbrev pub after : Outline → Outline
+after end = end
+after (token h k n o) = o
+after (part c h i o) = o
+
+abbrev pub inside : Outline → Outline
+inside end = end
+inside (token h k n o) = end
+inside (part c h i o) = i
+
 -- a test of the next token, where its kind is known
 pub at_token : {B : Type 0} (f : List Token → B) (g : TokenKind → B) → ((t : Token) (ts : List Token) → f (t ∷ ts) ≡ g t.kind)
     → (h : Type 0) (k : TokenKind) (n : Option Spot) (o : Outline) (d : ℕ) (ts r : List Token) → Reads (token h k n o) d ts r → f ts ≡ g k
