@@ -83,7 +83,7 @@ step_opens : (op : StepOp) → opens (start_sign (step_sign op)) ≡ true
 step_opens s.Increment = refl
 step_opens s.Decrement = refl
 
-not_named : (names : Names) (x : Name) → is_type names x ≡ false → is_spec (spec_kind names (kind.Identifier x)) ≡ false
+pub not_named : (names : Names) (x : Name) → is_type names x ≡ false → is_spec (spec_kind names (kind.Identifier x)) ≡ false
 not_named names x e = rw e refl
 
 pub first_expr : (names : Names) (e : ExprTree Spot) (d : ℕ) (ts r : List Token) → Reads (o.expr names e) d ts r → OpensExpr names ts

@@ -1,4 +1,6 @@
 pub mod Depths
+pub mod Edges
+pub mod FirstDeclarators
 pub mod Firsts
 pub mod Inner
 pub mod Lists
