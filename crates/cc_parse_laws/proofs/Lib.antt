@@ -1,3 +1,4 @@
+pub mod Climbs
 pub mod Depths
 pub mod Edges
 pub mod FirstDeclarators
