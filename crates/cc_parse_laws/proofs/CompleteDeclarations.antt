@@ -13,9 +13,10 @@ use Rattle.cc_grammar.specs.Reading.{Inner, with_name, readers, given, inits_beh
 use Rattle.cc_parse_laws.proofs.Spans.{Inside, Reads}
 use Rattle.cc_parse_laws.proofs.Steps.{reads_length}
 use Rattle.cc_parse_laws.proofs.Inner.{CompleteInner, Ends, EndsSpecs, EndsDeclarator, ReadsDeclarator}
-use Rattle.cc_parse_laws.proofs.Peeks.{skip_shorter, sign_other, sign_ends, sign_ends_specs, sign_ends_declarator}
-use Rattle.cc_parse_laws.proofs.FirstTokens.{inside_gives, specs_first, BeginsDeclarator, declarator_first}
-use Rattle.cc_parse_laws.proofs.Pieces.{after, inside, comes, only, Got, got_specs, got_declarator}
+use Rattle.cc_parse_laws.proofs.Peeks.{after, skip_shorter, sign_other, sign_ends, sign_ends_specs, sign_ends_declarator}
+use Rattle.cc_parse_laws.proofs.Firsts.{first_specs}
+use Rattle.cc_parse_laws.proofs.Stands.{named_begins}
+use Rattle.cc_parse_laws.proofs.Pieces.{comes, only, Got, got_specs, got_declarator}
 use Rattle.cc_parse_laws.proofs.CompleteValues.{given_again}
 
 -- ---- What stands behind a declarator
@@ -118,24 +119,24 @@ module _ (readers_complete : (names : Names) (d : ℕ) → CompleteInner names (
       subst (EndsSpecs names) (sym x.2) (sign_ends_specs names p.Semicolon x.0 refl semicolon.is)
   inits_begin names typedef (init f v ∷ is) d ts r x =
       let a = apart names typedef f v is d ts x.0 x.2 in
-      let begins = inside_gives (o.is_written f) (λ e. Reads (o.declarator names f) e ts a.name_ends) (BeginsDeclarator names ts) (λ e y. declarator_first names f e ts a.name_ends a.named y) d a.declares in
+      let begins = named_begins names f d ts a.name_ends a.named a.declares in
       record { no_spec = begins.no_spec; no_brace = begins.no_brace }
 
   pub declaration_again : (names : Names) (d : ℕ) (n : Spot) (ss : SpecTrees Spot) (is : List (InitTree Spot)) (ts r : List Token) → o.BeginAt ss n
       → Reads (o.declaration_of names (declaration n ss is)) d ts r → declaration_at d names ts ≡ Ok (declaration n ss is, r)
   declaration_again names d n ss [] ts r b x =
-      let at : spot ts ≡ n = (specs_first names ss n d ts x.0 b x.2).1 in
+      let at : spot ts ≡ n = (first_specs names ss n d ts x.0 b x.2).1 in
       let specs = got_specs readers_complete names d ss n (after (o.declaration_of names (declaration n ss []))) ts r b (λ m y. inits_begin names (has_typedef ss) [] d m r y) x in
       let semicolon = comes p.Semicolon None end d specs.rest r (subst (λ q. Reads (o.sign p.Semicolon end) d q r) (sym specs.then.2) specs.then.3) in
       rw (at, specs.reads, semicolon.is, semicolon.then) refl
   declaration_again names d n ss (init f v ∷ is) ts r b x =
       let typedef = has_typedef ss in
-      let at : spot ts ≡ n = (specs_first names ss n d ts x.0 b x.2).1 in
+      let at : spot ts ≡ n = (first_specs names ss n d ts x.0 b x.2).1 in
       let specs = got_specs readers_complete names d ss n (after (o.declaration_of names (declaration n ss (init f v ∷ is)))) ts r b (λ m y. inits_begin names typedef (init f v ∷ is) d m r y) x in
       let y = specs.then in
       let a = apart names typedef f v is d specs.rest y.0 y.2 in
       let semicolon = comes p.Semicolon None end d y.0 r y.3 in
-      let begins = inside_gives (o.is_written f) (λ e. Reads (o.declarator names f) e specs.rest a.name_ends) (BeginsDeclarator names specs.rest) (λ e z. declarator_first names f e specs.rest a.name_ends a.named z) d a.declares in
+      let begins = named_begins names f d specs.rest a.name_ends a.named a.declares in
       let first = first_again names typedef f v is d specs.rest y.0 a semicolon.is in
       let others = inits_again names typedef f v is d specs.rest y.0 a semicolon.is in
       rw (at, specs.reads, begins.no_semicolon, first.0, others, semicolon.taken, semicolon.then) refl

@@ -9,6 +9,7 @@ use Rattle.cc_syntax.specs.Trees.{ExprTree, string, step, ValueTree, single, bra
 use Rattle.cc_syntax.specs.Views.{gathered_values}
 use Rattle.cc_grammar.specs.Outline.{Outline, end, token, part, size}
 use Rattle.cc_grammar.specs.Outlines as o
+use Rattle.cc_grammar.specs.Levels.{level}
 use Rattle.cc_grammar.specs.Names.{Names}
 use Rattle.cc_grammar.specs.Classes.{next_is, skip, spot, tail, tail_kind, binds}
 use Rattle.cc_grammar.specs.Reading.{Inner, readers, enclosed, value, given}
@@ -16,24 +17,14 @@ use Rattle.cc_parse_laws.proofs.Spans.{Inside, Reads}
 use Rattle.cc_parse_laws.proofs.Steps.{next_token, reads_next, reads_length}
 use Rattle.cc_parse_laws.proofs.Inner.{CompleteInner, Ends, ReadsExpr}
 use Rattle.cc_parse_laws.proofs.Lists.{Span, Others, Separated, Enclosed, Braced, Again, Shorter, enclosed_again}
-use Rattle.cc_parse_laws.proofs.Peeks.{sign_tail, sign_other, sign_ends}
-use Rattle.cc_parse_laws.proofs.Nexts.{unlike, BeginsExpr}
-use Rattle.cc_parse_laws.proofs.FirstTokens.{inside_gives, expr_first}
-use Rattle.cc_parse_laws.proofs.Pieces.{after, inside, comes, only, only_counted}
+use Rattle.cc_parse_laws.proofs.Peeks.{after, inside, sign_tail, sign_other, sign_ends}
+use Rattle.cc_parse_laws.proofs.Firsts.{inside_sinks, first_operand, opens_not}
+use Rattle.cc_parse_laws.proofs.Edges.{operand_shorter}
+use Rattle.cc_parse_laws.proofs.Pieces.{comes, only, only_counted}
 
--- an expression has tokens
-pub expr_shorter : (names : Names) (e : ExprTree Spot) (d : ℕ) (ts r : List Token) → Reads (o.expr names e) d ts r → length r < length ts
-expr_shorter names (string n []) d ts r x = absurd x.1
-expr_shorter names (string n (s ∷ ss)) d ts r x = omega (arith, reads_length (o.expr names (string n (s ∷ ss))) d ts r x)
-expr_shorter names (step n op side.Before e) d ts r x = omega (arith, reads_length (o.expr names (step n op side.Before e)) d ts r x)
-expr_shorter names (step n op side.After e) d ts r x = omega (arith, reads_length (o.expr names (step n op side.After e)) d ts r x)
-expr_shorter names e d ts r x = omega (arith, reads_length (o.expr names e) d ts r x)
-
--- and so has an initialiser
+-- an initialiser has tokens
 value_shorter : (names : Names) (v : ValueTree Spot) (d : ℕ) (ts r : List Token) → Reads (o.value names v) d ts r → length r < length ts
-value_shorter names (single e) d ts r x =
-    let y = only_counted _ (o.expr names e) d ts r x in
-    inside_gives true (λ f. Reads (o.expr names e) f ts r) (length r < length ts) (λ f z. expr_shorter names e f ts r z) d y.1
+value_shorter names (single e) d ts r x = let y = only_counted (2 ≤ level e) (o.expr names e) d ts r x in operand_shorter names e d ts r y.1
 value_shorter names (braces n vs b) d ts r x = omega (arith, reads_length (o.value names (braces n vs b)) d ts r x)
 
 -- ---- Lists of initialisers
@@ -85,24 +76,26 @@ closed names vs false d ts r h x =
 -- ---- Initialisers
 
 no_equal : (ts : List Token) → Ends 2 ts → next_is p.Equal ts ≡ false
-no_equal ts e = unlike (next_is p.Equal ts) (λ y. let same = sign_tail p.Equal ts y in omega (arith, e.looser, ap binds same))
+no_equal ts e = by (next_is p.Equal ts) refl
+  where
+  by : (b : Bool) → next_is p.Equal ts ≡ b → next_is p.Equal ts ≡ false
+  by false y = y
+  by true y = let same = sign_tail p.Equal ts y in absurd (omega (arith, e.looser, ap binds same))
+
+opens : (names : Names) (d : ℕ) (v : ValueTree Spot) (ts r : List Token) → Spanned names d v ts r → next_is p.RightBrace ts ≡ false
+opens names d (single e) ts r x = let y = only_counted (2 ≤ level e) (o.expr names e) d ts r x.0 in opens_not names p.RightBrace ts refl (first_operand names e d ts r y.1)
+opens names d (braces n vs b) ts r x =
+    let i = inside (o.value names (braces n vs b)) in
+    let y = only_counted (o.HasValues vs) i d ts r x.0 in
+    sign_other p.RightBrace p.LeftBrace ts refl (comes p.LeftBrace (Some n) (after i) d ts r (inside_sinks true i d ts r y.1)).is
 
 module _ (readers_complete : (names : Names) (d : ℕ) → CompleteInner names (readers names d) d) where
   single_again : (names : Names) (d : ℕ) (e : ExprTree Spot) (ts r : List Token) → Reads (o.value names (single e)) (suc d) ts r → Ends 2 r → value names (suc d) ts ≡ Ok (single e, r)
   single_again names d e ts r x ends =
-      let y = only_counted _ (o.expr names e) (suc d) ts r x in
+      let y = only_counted (2 ≤ level e) (o.expr names e) (suc d) ts r x in
       let read : (readers names (suc d)).expr 2 ts ≡ Ok (e, r) = (readers_complete names (suc d)).expr 2 e ts r y.0 y.1 ends in
-      let other : next_is p.LeftBrace ts ≡ false = (expr_first names (suc d) 2 ts (e, r) read).no_sign p.LeftBrace refl in
+      let other : next_is p.LeftBrace ts ≡ false = opens_not names p.LeftBrace ts refl (first_operand names e (suc d) ts r y.1) in
       rw (other, read) refl
-
-  opens : (names : Names) (d : ℕ) (v : ValueTree Spot) (ts r : List Token) → Spanned names d v ts r → next_is p.RightBrace ts ≡ false
-  opens names d (single e) ts r x =
-      let y = only_counted _ (o.expr names e) d ts r x.0 in
-      (expr_first names d 2 ts (e, r) ((readers_complete names d).expr 2 e ts r y.0 y.1 x.1)).no_sign p.RightBrace refl
-  opens names d (braces n vs b) ts r x =
-      let i = inside (o.value names (braces n vs b)) in
-      let y = only_counted (o.HasValues vs) i d ts r x.0 in
-      inside_gives true (λ e. Reads i e ts r) (next_is p.RightBrace ts ≡ false) (λ e z. sign_other p.RightBrace p.LeftBrace ts refl (comes p.LeftBrace (Some n) (after i) e ts r z).is) d y.1
 
   braces_again : (names : Names) (d : ℕ) (n : Spot) (vs : ValueTrees Spot) (last : Bool) (ts r : List Token) → ((v : ValueTree Spot) → Again (value names d) (Spanned names d) (Ends 2) v)
       → Reads (o.value names (braces n vs last)) (suc d) ts r → value names (suc d) ts ≡ Ok (braces n vs last, r)

@@ -1,11 +1,15 @@
+pub mod Climbs
 pub mod CompleteDeclarations
 pub mod CompleteValues
 pub mod Depths
-pub mod FirstTokens
+pub mod Edges
+pub mod FirstDeclarators
+pub mod Firsts
 pub mod Inner
 pub mod Lists
 pub mod Nexts
 pub mod Peeks
 pub mod Pieces
 pub mod Spans
+pub mod Stands
 pub mod Steps

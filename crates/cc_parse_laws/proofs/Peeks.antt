@@ -12,8 +12,19 @@ use Rattle.cc_grammar.specs.Names.{Names}
 use Rattle.cc_grammar.specs.Outline.{Outline, end, token, part}
 use Rattle.cc_grammar.specs.Classes.{next_is, next_is_key, skip, start, start_kind, Start, begins_nothing, tail, tail_kind, next_ident, ident, next_literal, literal, is_punct, is_keyword, spec_start, spec_kind, starts_spec, is_spec, no_spec, binds, same_punct}
 use Rattle.cc_parse_laws.proofs.Spans.{Reads}
-use Rattle.cc_parse_laws.proofs.Steps.{punct_kind}
+use Rattle.cc_parse_laws.proofs.Steps.{punct_kind, keyword_kind}
 use Rattle.cc_parse_laws.proofs.Inner.{Ends, EndsSpecs, EndsDeclarator}
+
+-- what comes after the first of an outline, and what is in it
+abbrev pub after : Outline → Outline
+after end = end
+after (token h k n o) = o
+after (part c h i o) = o
+
+abbrev pub inside : Outline → Outline
+inside end = end
+inside (token h k n o) = end
+inside (part c h i o) = i
 
 -- a test of the next token, where its kind is known
 pub at_token : {B : Type 0} (f : List Token → B) (g : TokenKind → B) → ((t : Token) (ts : List Token) → f (t ∷ ts) ≡ g t.kind)
@@ -25,6 +36,11 @@ pub at_sign : {B : Type 0} (f : List Token → B) (g : TokenKind → B) → ((t 
     → (s : Punct) (ts : List Token) → next_is s ts ≡ true → f ts ≡ g (kind.Punct s)
 at_sign f g same s [] e = absurd cc
 at_sign f g same s (t ∷ ts) e = same t ts ∙ ap g (punct_kind s t.kind e)
+
+pub at_key : {B : Type 0} (f : List Token → B) (g : TokenKind → B) → ((t : Token) (ts : List Token) → f (t ∷ ts) ≡ g t.kind)
+    → (w : Keyword) (ts : List Token) → next_is_key w ts ≡ true → f ts ≡ g (kind.Keyword w)
+at_key f g same w [] e = absurd cc
+at_key f g same w (t ∷ ts) e = same t ts ∙ ap g (keyword_kind w t.kind e)
 
 pub sign_tail : (s : Punct) (ts : List Token) → next_is s ts ≡ true → tail ts ≡ tail_kind (kind.Punct s)
 sign_tail s ts e = at_sign tail tail_kind (λ t us. refl) s ts e

@@ -26,17 +26,6 @@ pub record Got {A : Type 0} (read : Parser A) (a : A) (o : Outline) (d : ℕ) (t
   pub reads : read ts ≡ Ok (a, rest)
   pub then : Reads o d rest r
 
--- what comes after the first of an outline, and what is in it
-abbrev pub after : Outline → Outline
-after end = end
-after (token h k n i) = i
-after (part c h i o) = o
-
-abbrev pub inside : Outline → Outline
-inside end = end
-inside (token h k n i) = end
-inside (part c h i o) = i
-
 -- a punctuator comes next, or a keyword
 pub record Comes (s : Punct) (n : Option Spot) (i : Outline) (d : ℕ) (ts r : List Token) : Type 0 where
   pub is : next_is s ts ≡ true
