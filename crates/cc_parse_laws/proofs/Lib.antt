@@ -1,5 +1,6 @@
 pub mod Climbs
 pub mod CompleteDeclarations
+pub mod CompleteStatements
 pub mod CompleteValues
 pub mod Depths
 pub mod Edges

@@ -26,6 +26,11 @@ pub record Got {A : Type 0} (read : Parser A) (a : A) (o : Outline) (d : ℕ) (t
   pub reads : read ts ≡ Ok (a, rest)
   pub then : Reads o d rest r
 
+-- what counts leaves one less of the depth
+pub at_depth : (C : ℕ → Type 0) (h : Type 0) (i : Outline) (d : ℕ) (ts r : List Token) → Reads (part true h i end) d ts r → ((e : ℕ) → h → Reads i e ts r → C (suc e)) → C d
+at_depth C h i zero ts r x give = absurd x.2
+at_depth C h i (suc e) ts r x give = give e x.1 (subst (λ m. Reads i e ts m) x.3 x.2)
+
 -- a punctuator comes next, or a keyword
 pub record Comes (s : Punct) (n : Option Spot) (i : Outline) (d : ℕ) (ts r : List Token) : Type 0 where
   pub is : next_is s ts ≡ true
