@@ -29,18 +29,18 @@ IsStmt s = (names : Names) (d : ℕ) (ts r : List Token) → Reads (o.stmt names
 
 -- ---- Statements of a few tokens
 
-empty_again : (names : Names) (d : ℕ) (n : Spot) (ts r : List Token) → Reads (inside (o.stmt names (empty n))) d ts r → stmt (suc d) names ts ≡ Ok (empty n, r)
+pub empty_again : (names : Names) (d : ℕ) (n : Spot) (ts r : List Token) → Reads (inside (o.stmt names (empty n))) d ts r → stmt (suc d) names ts ≡ Ok (empty n, r)
 empty_again names d n ts r x =
     let semicolon = comes p.Semicolon (Some n) end d ts r x in
     rw (sign_stmt p.Semicolon ts semicolon.is, semicolon.at, semicolon.then) refl
 
-break_again : (names : Names) (d : ℕ) (n : Spot) (ts r : List Token) → Reads (inside (o.stmt names (break n))) d ts r → stmt (suc d) names ts ≡ Ok (break n, r)
+pub break_again : (names : Names) (d : ℕ) (n : Spot) (ts r : List Token) → Reads (inside (o.stmt names (break n))) d ts r → stmt (suc d) names ts ≡ Ok (break n, r)
 break_again names d n ts r x =
     let word = comes_key k.Break (Some n) (Unit {0}) (after (inside (o.stmt names (break n)))) d ts r x in
     let semicolon = comes p.Semicolon None end d (skip ts) r word.then in
     rw (key_stmt k.Break ts word.is, word.at, semicolon.taken, semicolon.then) refl
 
-continue_again : (names : Names) (d : ℕ) (n : Spot) (ts r : List Token) → Reads (inside (o.stmt names (continue n))) d ts r → stmt (suc d) names ts ≡ Ok (continue n, r)
+pub continue_again : (names : Names) (d : ℕ) (n : Spot) (ts r : List Token) → Reads (inside (o.stmt names (continue n))) d ts r → stmt (suc d) names ts ≡ Ok (continue n, r)
 continue_again names d n ts r x =
     let word = comes_key k.Continue (Some n) (Unit {0}) (after (inside (o.stmt names (continue n)))) d ts r x in
     let semicolon = comes p.Semicolon None end d (skip ts) r word.then in
@@ -89,14 +89,14 @@ module _ (readers_complete : (names : Names) (d : ℕ) → CompleteInner names (
 
   -- ---- Statements with expressions
 
-  plain_again : (names : Names) (d : ℕ) (n : Spot) (e : ExprTree Spot) (ts r : List Token) → n ≡ o.begins e → Reads (inside (o.stmt names (plain n e))) d ts r → stmt (suc d) names ts ≡ Ok (plain n e, r)
+  pub plain_again : (names : Names) (d : ℕ) (n : Spot) (e : ExprTree Spot) (ts r : List Token) → n ≡ o.begins e → Reads (inside (o.stmt names (plain n e))) d ts r → stmt (suc d) names ts ≡ Ok (plain n e, r)
   plain_again names d n e ts r at x =
       let stands : spot ts ≡ n = expr_stands names e d ts x.0 (inside_sinks true (o.expr names e) d ts x.0 x.2) ∙ sym at in
       let read = got_expr readers_complete names d 1 e p.Semicolon end ts r (omega arith) x in
       let semicolon = comes p.Semicolon None end d read.rest r read.then in
       rw (expr_other names ts (first_operand names e d ts x.0 x.2), stands, read.reads, semicolon.taken, semicolon.then) refl
 
-  return_again : (names : Names) (d : ℕ) (n : Spot) (c : Option (ExprTree Spot)) (ts r : List Token) → Reads (inside (o.stmt names (return n c))) d ts r → stmt (suc d) names ts ≡ Ok (return n c, r)
+  pub return_again : (names : Names) (d : ℕ) (n : Spot) (c : Option (ExprTree Spot)) (ts r : List Token) → Reads (inside (o.stmt names (return n c))) d ts r → stmt (suc d) names ts ≡ Ok (return n c, r)
   return_again names d n c ts r x =
       let word = comes_key k.Return (Some n) (Unit {0}) (after (inside (o.stmt names (return n c)))) d ts r x in
       let read = got_clause (stmt d) names d c p.Semicolon end (skip ts) r (omega arith) refl word.then in
@@ -105,7 +105,7 @@ module _ (readers_complete : (names : Names) (d : ℕ) → CompleteInner names (
 
   -- ---- Statements with statements
 
-  if_then_again : (names : Names) (d : ℕ) (n : Spot) (c : ExprTree Spot) (s : StmtTree Spot) (ts r : List Token) → IsStmt s → next_is_key k.Else r ≡ false
+  pub if_then_again : (names : Names) (d : ℕ) (n : Spot) (c : ExprTree Spot) (s : StmtTree Spot) (ts r : List Token) → IsStmt s → next_is_key k.Else r ≡ false
       → Reads (inside (o.stmt names (if_then n c s))) d ts r → stmt (suc d) names ts ≡ Ok (if_then n c s, r)
   if_then_again names d n c s ts r again no_else x =
       let word = comes_key k.If (Some n) (Unit {0}) (after (inside (o.stmt names (if_then n c s)))) d ts r x in
@@ -113,7 +113,7 @@ module _ (readers_complete : (names : Names) (d : ℕ) → CompleteInner names (
       let inner = again names d test.rest r (only (o.stmt names s) d test.rest r test.then) (λ _. no_else) in
       rw (key_stmt k.If ts word.is, word.at, test.reads, inner, no_else) refl
 
-  if_else_again : (names : Names) (d : ℕ) (n : Spot) (c : ExprTree Spot) (s t : StmtTree Spot) (ts r : List Token) → IsStmt s → IsStmt t → (o.is_open t ≡ true → next_is_key k.Else r ≡ false)
+  pub if_else_again : (names : Names) (d : ℕ) (n : Spot) (c : ExprTree Spot) (s t : StmtTree Spot) (ts r : List Token) → IsStmt s → IsStmt t → (o.is_open t ≡ true → next_is_key k.Else r ≡ false)
       → Reads (inside (o.stmt names (if_else n c s t))) d ts r → stmt (suc d) names ts ≡ Ok (if_else n c s t, r)
   if_else_again names d n c s t ts r again_s again_t ends x =
       let word = comes_key k.If (Some n) (Unit {0}) (after (inside (o.stmt names (if_else n c s t)))) d ts r x in
@@ -124,7 +124,7 @@ module _ (readers_complete : (names : Names) (d : ℕ) → CompleteInner names (
       let second = again_t (after_stmt s names) d (skip y.0) r (only (o.stmt (after_stmt s names) t) d (skip y.0) r other.then) ends in
       rw (key_stmt k.If ts word.is, word.at, test.reads, first, other.is, second) refl
 
-  switch_again : (names : Names) (d : ℕ) (n : Spot) (e : ExprTree Spot) (b : BlockTree Spot) (ts r : List Token) → IsStmt (compound b)
+  pub switch_again : (names : Names) (d : ℕ) (n : Spot) (e : ExprTree Spot) (b : BlockTree Spot) (ts r : List Token) → IsStmt (compound b)
       → Reads (inside (o.stmt names (switch n e b))) d ts r → stmt (suc d) names ts ≡ Ok (switch n e b, r)
   switch_again names d n e b ts r again x =
       let word = comes_key k.Switch (Some n) (Unit {0}) (after (inside (o.stmt names (switch n e b)))) d ts r x in
@@ -132,7 +132,7 @@ module _ (readers_complete : (names : Names) (d : ℕ) → CompleteInner names (
       let inner = (body_again names d b test.rest r again (only (o.block_of names b) d test.rest r test.then)).1 in
       rw (key_stmt k.Switch ts word.is, word.at, test.reads, inner) refl
 
-  while_again : (names : Names) (d : ℕ) (n : Spot) (c : ExprTree Spot) (s : StmtTree Spot) (ts r : List Token) → IsStmt s → (o.is_open s ≡ true → next_is_key k.Else r ≡ false)
+  pub while_again : (names : Names) (d : ℕ) (n : Spot) (c : ExprTree Spot) (s : StmtTree Spot) (ts r : List Token) → IsStmt s → (o.is_open s ≡ true → next_is_key k.Else r ≡ false)
       → Reads (inside (o.stmt names (while_loop n c s))) d ts r → stmt (suc d) names ts ≡ Ok (while_loop n c s, r)
   while_again names d n c s ts r again ends x =
       let word = comes_key k.While (Some n) (Unit {0}) (after (inside (o.stmt names (while_loop n c s)))) d ts r x in
@@ -140,7 +140,7 @@ module _ (readers_complete : (names : Names) (d : ℕ) → CompleteInner names (
       let inner = again names d test.rest r (only (o.stmt names s) d test.rest r test.then) ends in
       rw (key_stmt k.While ts word.is, word.at, test.reads, inner) refl
 
-  do_again : (names : Names) (d : ℕ) (n : Spot) (s : StmtTree Spot) (c : ExprTree Spot) (ts r : List Token) → IsStmt s
+  pub do_again : (names : Names) (d : ℕ) (n : Spot) (s : StmtTree Spot) (c : ExprTree Spot) (ts r : List Token) → IsStmt s
       → Reads (inside (o.stmt names (do_loop n s c))) d ts r → stmt (suc d) names ts ≡ Ok (do_loop n s c, r)
   do_again names d n s c ts r again x =
       let word = comes_key k.Do (Some n) (Unit {0}) (after (inside (o.stmt names (do_loop n s c)))) d ts r x in
@@ -151,7 +151,7 @@ module _ (readers_complete : (names : Names) (d : ℕ) → CompleteInner names (
       let semicolon = comes p.Semicolon None end d test.rest r test.then in
       rw (key_stmt k.Do ts word.is, word.at, inner, loop.taken, test.reads, semicolon.taken, semicolon.then) refl
 
-  for_again : (names : Names) (d : ℕ) (n : Spot) (a : StartTree Spot) (test each : Option (ExprTree Spot)) (s : StmtTree Spot) (ts r : List Token) → IsStmt s → (o.is_open s ≡ true → next_is_key k.Else r ≡ false)
+  pub for_again : (names : Names) (d : ℕ) (n : Spot) (a : StartTree Spot) (test each : Option (ExprTree Spot)) (s : StmtTree Spot) (ts r : List Token) → IsStmt s → (o.is_open s ≡ true → next_is_key k.Else r ≡ false)
       → Reads (inside (o.stmt names (for_loop n a test each s))) d ts r → stmt (suc d) names ts ≡ Ok (for_loop n a test each s, r)
   for_again names d n a test each s ts r again ends x =
       let i = after (inside (o.stmt names (for_loop n a test each s))) in

@@ -1,4 +1,5 @@
 pub mod Climbs
+pub mod CompleteBlocks
 pub mod CompleteDeclarations
 pub mod CompleteStatements
 pub mod CompleteValues
