@@ -1,6 +1,7 @@
 pub mod Climbs
 pub mod CompleteBlocks
 pub mod CompleteDeclarations
+pub mod CompleteFiles
 pub mod CompleteStatements
 pub mod CompleteValues
 pub mod Depths
@@ -10,6 +11,7 @@ pub mod Firsts
 pub mod Inner
 pub mod Lists
 pub mod Nexts
+pub mod OneTree
 pub mod Peeks
 pub mod Pieces
 pub mod Spans
