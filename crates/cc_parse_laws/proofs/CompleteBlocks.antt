@@ -1,26 +1,26 @@
 -- Blocks are read back, and with them all statements.
-use Rattle.std.proofs.Common.{◌≡◌, ◌≤◌, ◌<◌, ◌+◌, refl, ℕ, zero, suc, Bool, true, false, List, [], ◌∷◌, length, Option, Some, None, Result, Ok, Err, arith, sym, ap, ◌∙◌, subst}
+use Rattle.std.proofs.Common.{◌≡◌, ◌≤◌, ◌<◌, refl, ℕ, zero, suc, Bool, true, false, List, [], ◌∷◌, length, Some, None, Ok, arith, ap, ◌∙◌}
 use Rattle.cc_tree.specs.declared.place.Spot.{Spot}
 use Rattle.cc_lex.specs.declared.token.Token.{Token}
 use Rattle.cc_lex.specs.declared.keyword.Keyword.{Keyword}
 use Rattle.cc_lex.specs.declared.keyword.Keyword.TheVariants as k
 use Rattle.cc_lex.specs.declared.punct.Punct.{Punct}
 use Rattle.cc_lex.specs.declared.punct.Punct.TheVariants as p
-use Rattle.cc_syntax.specs.Trees.{ExprTree, DeclarationTree, declaration, StmtTree, compound, plain, empty, if_then, if_else, switch, while_loop, do_loop, for_loop, break, continue, return, BlockTree, block, ItemTree, declares, case_label, default_label, does, ItemTrees, no_items, more_items}
+use Rattle.cc_syntax.specs.Trees.{ExprTree, SpecTrees, InitTree, DeclarationTree, declaration, StmtTree, compound, plain, empty, if_then, if_else, switch, while_loop, do_loop, for_loop, break, continue, return, BlockTree, block, ItemTree, declares, case_label, default_label, does, ItemTrees, no_items, more_items}
 use Rattle.cc_syntax.specs.Views.{gathered_items}
-use Rattle.cc_grammar.specs.Outline.{Outline, end, token, part, size}
+use Rattle.cc_grammar.specs.Outline.{Outline, end, part, size}
 use Rattle.cc_grammar.specs.Outlines as o
 use Rattle.cc_grammar.specs.Names.{Names, after_item}
-use Rattle.cc_grammar.specs.Classes.{same_punct, same_keyword, next_is, next_is_key, skip, spot, spec_key, is_spec, starts_spec, StmtStart, begins_block, begins_empty, begins_if, begins_switch, begins_while, begins_do, begins_for, begins_break, begins_continue, begins_return, begins_case, begins_default, begins_other, stmt_sign, stmt_key, stmt_start}
+use Rattle.cc_grammar.specs.Classes.{same_punct, same_keyword, next_is, next_is_key, skip, spot, spec_key, is_spec, starts_spec, StmtStart, begins_case, begins_default, stmt_sign, stmt_key, stmt_start}
 use Rattle.cc_grammar.specs.Outcomes.{Parser, ◌<$>◌}
-use Rattle.cc_grammar.specs.Reading.{Inner, readers, declaration_at, label_by, item, items_by, stmt}
-use Rattle.cc_parse_laws.proofs.Spans.{Inside, Reads}
+use Rattle.cc_grammar.specs.Reading.{readers, label_by, item, items_by, stmt}
+use Rattle.cc_parse_laws.proofs.Spans.{Reads}
 use Rattle.cc_parse_laws.proofs.Steps.{reads_length}
-use Rattle.cc_parse_laws.proofs.Inner.{CompleteInner, Ends}
+use Rattle.cc_parse_laws.proofs.Inner.{CompleteInner}
 use Rattle.cc_parse_laws.proofs.Peeks.{after, inside, sign_spec, sign_key, sign_other}
 use Rattle.cc_parse_laws.proofs.Firsts.{inside_sinks, first_expr, opens_not, first_specs, spec_not}
 use Rattle.cc_parse_laws.proofs.Nexts.{sign_stmt, key_other, key_sign, key_spec, key_stmt, spec_no_else, expr_other, expr_no_else}
-use Rattle.cc_parse_laws.proofs.Pieces.{Got, only, only_counted, at_depth, comes, comes_key, got_expr}
+use Rattle.cc_parse_laws.proofs.Pieces.{only, only_counted, at_depth, comes, comes_key, got_expr}
 use Rattle.cc_parse_laws.proofs.CompleteDeclarations.{declaration_again}
 use Rattle.cc_parse_laws.proofs.CompleteStatements.{IsStmt, empty_again, break_again, continue_again, plain_again, return_again, if_then_again, if_else_again, switch_again, while_again, do_again, for_again}
 
@@ -110,7 +110,7 @@ items_no_else names (more_items i is) d ts r x e = (item_opens names i d ts x.0 
 
 -- ---- They have tokens
 
-block_size : (names : Names) (b : BlockTree Spot) → 1 ≤ size (o.block_of names b)
+pub block_size : (names : Names) (b : BlockTree Spot) → 1 ≤ size (o.block_of names b)
 block_size names (block n is) = omega arith
 
 stmt_size : (names : Names) (s : StmtTree Spot) → 1 ≤ size (o.stmt names s)
@@ -152,18 +152,29 @@ no_label_by inner d begins_case names n ts e = absurd cc
 no_label_by inner d begins_default names n ts e = absurd cc
 no_label_by inner d _ names n ts e = refl
 
+-- what is counted is read with one less of the depth
+item_at : (names : Names) (i : ItemTree Spot) (h : Type 0) (d : ℕ) (ts r : List Token) → Reads (part true h (inside (o.item names i)) end) d ts r
+    → ((e : ℕ) → h → Reads (inside (o.item names i)) e ts r → item (stmt (suc e)) (suc e) names ts ≡ Ok (i, r)) → item (stmt d) d names ts ≡ Ok (i, r)
+item_at names i h d ts r x give = at_depth (λ e. item (stmt e) e names ts ≡ Ok (i, r)) h (inside (o.item names i)) d ts r x give
+
+stmt_at : (names : Names) (s : StmtTree Spot) (h : Type 0) (d : ℕ) (ts r : List Token) → Reads (part true h (inside (o.stmt names s)) end) d ts r
+    → ((e : ℕ) → h → Reads (inside (o.stmt names s)) e ts r → stmt (suc e) names ts ≡ Ok (s, r)) → stmt d names ts ≡ Ok (s, r)
+stmt_at names s h d ts r x give = at_depth (λ e. stmt e names ts ≡ Ok (s, r)) h (inside (o.stmt names s)) d ts r x give
+
 does_again : (s : StmtTree Spot) → IsStmt s → IsItem (does s)
 does_again s again names d ts r x e =
     let begins = stmt_opens names s d ts r x in
     let read = again names d ts r x (λ _. e) in
     rw (begins.no_spec, no_label_by (stmt d) d (stmt_start ts) names (spot ts) ts begins.no_label, read) refl
 
+default_inside : (n : Spot) (names : Names) (d : ℕ) (ts r : List Token) → Reads (inside (o.item names (default_label n))) d ts r → item (stmt (suc d)) (suc d) names ts ≡ Ok (default_label n, r)
+default_inside n names d ts r x =
+    let word = comes_key k.Default (Some n) (Unit {0}) (after (inside (o.item names (default_label n)))) d ts r x in
+    let colon = comes p.Colon None end d (skip ts) r word.then in
+    rw (key_spec names k.Default ts refl word.is, key_stmt k.Default ts word.is, word.at, colon.taken, colon.then) refl
+
 default_again : (n : Spot) → IsItem (default_label n)
-default_again n names d ts r x e =
-    at_depth (λ f. item (stmt f) f names ts ≡ Ok (default_label n, r)) (Unit {0}) (inside (o.item names (default_label n))) d ts r x (λ f _ y.
-      let word = comes_key k.Default (Some n) (Unit {0}) (after (inside (o.item names (default_label n)))) f ts r y in
-      let colon = comes p.Colon None end f (skip ts) r word.then in
-      rw (key_spec names k.Default ts refl word.is, key_stmt k.Default ts word.is, word.at, colon.taken, colon.then) refl)
+default_again n names d ts r x e = item_at names (default_label n) (Unit {0}) d ts r x (λ f _ y. default_inside n names f ts r y)
 
 listed : ItemTrees Spot → List (ItemTree Spot)
 listed no_items = []
@@ -185,34 +196,36 @@ items_again (more_items i is) all names d (suc turns) ts r x e h =
     let others = items_again is all.1 (after_item i names) d turns x.0 r z e (omega (arith, h, item_size names i, reads_length (o.item names i) d ts x.0 x.2)) in
     rw ((item_opens names i d ts x.0 x.2).no_brace, read, others) refl
 
-block_again : (n : Spot) (is : ItemTrees Spot) → AllItems is → IsStmt (compound (block n is))
-block_again n is all names d ts r x ends =
-    let i = inside (o.block_of names (block n is)) in
-    at_depth (λ e. stmt e names ts ≡ Ok (compound (block n is), r)) (Unit {0}) i d ts r x (λ e _ y.
-      let brace = comes p.LeftBrace (Some n) (after i) e ts r y in
-      let z = brace.then in
-      let close = comes p.RightBrace None end e z.0 r z.3 in
-      let read = items_again is all names e (suc (length (skip ts))) (skip ts) z.0 z.2 close.is (omega arith) in
-      rw (sign_stmt p.LeftBrace ts brace.is, brace.at, read, gathered_listed is, close.then) refl)
+block_inside : (n : Spot) (is : ItemTrees Spot) → AllItems is → (names : Names) (d : ℕ) (ts r : List Token) → Reads (inside (o.block_of names (block n is))) d ts r → stmt (suc d) names ts ≡ Ok (compound (block n is), r)
+block_inside n is all names d ts r x =
+    let brace = comes p.LeftBrace (Some n) (after (inside (o.block_of names (block n is)))) d ts r x in
+    let y = brace.then in
+    let close = comes p.RightBrace None end d y.0 r y.3 in
+    let read = items_again is all names d (suc (length (skip ts))) (skip ts) y.0 y.2 close.is (omega arith) in
+    rw (sign_stmt p.LeftBrace ts brace.is, brace.at, read, gathered_listed is, close.then) refl
 
-stmt_at : (names : Names) (s : StmtTree Spot) (h : Type 0) (d : ℕ) (ts r : List Token) → Reads (part true h (inside (o.stmt names s)) end) d ts r → ((e : ℕ) → h → Reads (inside (o.stmt names s)) e ts r → stmt (suc e) names ts ≡ Ok (s, r))
-    → stmt d names ts ≡ Ok (s, r)
-stmt_at names s h d ts r x give = at_depth (λ e. stmt e names ts ≡ Ok (s, r)) h (inside (o.stmt names s)) d ts r x give
+block_again : (n : Spot) (is : ItemTrees Spot) → AllItems is → IsStmt (compound (block n is))
+block_again n is all names d ts r x ends = stmt_at names (compound (block n is)) (Unit {0}) d ts r x (λ f _ y. block_inside n is all names f ts r y)
 
 module _ (readers_complete : (names : Names) (d : ℕ) → CompleteInner names (readers names d) d) where
+  declares_inside : (n : Spot) (ss : SpecTrees Spot) (is : List (InitTree Spot)) (names : Names) (d : ℕ) (ts r : List Token) → o.BeginAt ss n → Reads (o.declaration_of names (declaration n ss is)) d ts r
+      → item (stmt (suc d)) (suc d) names ts ≡ Ok (declares (declaration n ss is), r)
+  declares_inside n ss is names d ts r b x =
+      let starts : starts_spec names ts ≡ true = (first_specs names ss n d ts x.0 b x.2).0 in
+      rw (starts, declaration_again readers_complete names d n ss is ts r b x) refl
+
   declares_again : (a : DeclarationTree Spot) → IsItem (declares a)
-  declares_again (declaration n ss is) names d ts r x e =
-      at_depth (λ f. item (stmt f) f names ts ≡ Ok (declares (declaration n ss is), r)) (o.BeginAt ss n) (o.declaration_of names (declaration n ss is)) d ts r x (λ f b y.
-        let starts : starts_spec names ts ≡ true = (first_specs names ss n f ts y.0 b y.2).0 in
-        rw (starts, declaration_again readers_complete names f n ss is ts r b y) refl)
+  declares_again (declaration n ss is) names d ts r x e = item_at names (declares (declaration n ss is)) (o.BeginAt ss n) d ts r x (λ f b y. declares_inside n ss is names f ts r b y)
+
+  case_inside : (n : Spot) (c : ExprTree Spot) (names : Names) (d : ℕ) (ts r : List Token) → Reads (inside (o.item names (case_label n c))) d ts r → item (stmt (suc d)) (suc d) names ts ≡ Ok (case_label n c, r)
+  case_inside n c names d ts r x =
+      let word = comes_key k.Case (Some n) (Unit {0}) (after (inside (o.item names (case_label n c)))) d ts r x in
+      let read = got_expr readers_complete names d 3 c p.Colon end (skip ts) r (omega arith) word.then in
+      let colon = comes p.Colon None end d read.rest r read.then in
+      rw (key_spec names k.Case ts refl word.is, key_stmt k.Case ts word.is, word.at, read.reads, colon.taken, colon.then) refl
 
   case_again : (n : Spot) (c : ExprTree Spot) → IsItem (case_label n c)
-  case_again n c names d ts r x e =
-      at_depth (λ f. item (stmt f) f names ts ≡ Ok (case_label n c, r)) (Unit {0}) (inside (o.item names (case_label n c))) d ts r x (λ f _ y.
-        let word = comes_key k.Case (Some n) (Unit {0}) (after (inside (o.item names (case_label n c)))) f ts r y in
-        let read = got_expr readers_complete names f 3 c p.Colon end (skip ts) r (omega arith) word.then in
-        let colon = comes p.Colon None end f read.rest r read.then in
-        rw (key_spec names k.Case ts refl word.is, key_stmt k.Case ts word.is, word.at, read.reads, colon.taken, colon.then) refl)
+  case_again n c names d ts r x e = item_at names (case_label n c) (Unit {0}) d ts r x (λ f _ y. case_inside n c names f ts r y)
 
   mutual
     is_stmt : (s : StmtTree Spot) → IsStmt s

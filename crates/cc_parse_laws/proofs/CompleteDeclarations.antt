@@ -1,22 +1,21 @@
 -- Declarations are read back.
-use Rattle.std.proofs.Common.{◌≡◌, ◌≤◌, ◌<◌, ◌+◌, refl, ℕ, zero, suc, Bool, true, false, List, [], ◌∷◌, length, Option, Some, None, Result, Ok, Err, arith, sym, ap, ◌∙◌, subst, ◌⊎◌, inl, inr}
+use Rattle.std.proofs.Common.{◌≡◌, ◌≤◌, ◌<◌, refl, ℕ, zero, suc, Bool, true, false, List, [], ◌∷◌, length, Option, Some, None, Ok, arith, sym, ap, ◌∙◌, subst, ◌⊎◌, inl, inr}
 use Rattle.cc_tree.specs.declared.place.Spot.{Spot}
 use Rattle.cc_lex.specs.declared.token.Token.{Token}
-use Rattle.cc_lex.specs.declared.token.TokenKind.TheVariants as kind
 use Rattle.cc_lex.specs.declared.punct.Punct.TheVariants as p
-use Rattle.cc_syntax.specs.Trees.{SpecTrees, DeclTree, ValueTree, InitTree, init, DeclarationTree, declaration}
-use Rattle.cc_grammar.specs.Outline.{Outline, end, token, part}
+use Rattle.cc_syntax.specs.Trees.{SpecTrees, DeclTree, ValueTree, InitTree, init, declaration}
+use Rattle.cc_grammar.specs.Outline.{end}
 use Rattle.cc_grammar.specs.Outlines as o
-use Rattle.cc_grammar.specs.Names.{Names, has_typedef, after_declarator, after_inits}
-use Rattle.cc_grammar.specs.Classes.{next_is, skip, spot, starts_spec}
-use Rattle.cc_grammar.specs.Reading.{Inner, with_name, readers, given, inits_behind, inits, declaration_at}
-use Rattle.cc_parse_laws.proofs.Spans.{Inside, Reads}
+use Rattle.cc_grammar.specs.Names.{Names, has_typedef, after_declarator}
+use Rattle.cc_grammar.specs.Classes.{next_is, skip, spot}
+use Rattle.cc_grammar.specs.Reading.{with_name, readers, inits_behind, inits, declaration_at}
+use Rattle.cc_parse_laws.proofs.Spans.{Reads}
 use Rattle.cc_parse_laws.proofs.Steps.{reads_length}
 use Rattle.cc_parse_laws.proofs.Inner.{CompleteInner, Ends, EndsSpecs, EndsDeclarator, ReadsDeclarator}
 use Rattle.cc_parse_laws.proofs.Peeks.{after, skip_shorter, sign_other, sign_ends, sign_ends_specs, sign_ends_declarator}
 use Rattle.cc_parse_laws.proofs.Firsts.{first_specs}
 use Rattle.cc_parse_laws.proofs.Stands.{named_begins}
-use Rattle.cc_parse_laws.proofs.Pieces.{comes, only, Got, got_specs, got_declarator}
+use Rattle.cc_parse_laws.proofs.Pieces.{comes, only, got_specs}
 use Rattle.cc_parse_laws.proofs.CompleteValues.{given_again}
 
 -- ---- What stands behind a declarator

@@ -1,24 +1,24 @@
 -- Files are read back.
-use Rattle.std.proofs.Common.{◌≡◌, ◌≤◌, ◌<◌, ◌+◌, refl, ℕ, zero, suc, Bool, true, false, List, [], ◌∷◌, length, Option, Some, None, Result, Ok, Err, arith, sym, ap, ◌∙◌, subst}
+use Rattle.std.proofs.Common.{◌≡◌, ◌≤◌, ◌<◌, refl, ℕ, zero, suc, true, false, List, [], ◌∷◌, length, None, Ok, arith, sym, subst}
 use Rattle.cc_tree.specs.declared.place.Spot.{Spot}
 use Rattle.cc_lex.specs.declared.token.Token.{Token}
 use Rattle.cc_lex.specs.declared.punct.Punct.TheVariants as p
-use Rattle.cc_syntax.specs.Trees.{SpecTrees, no_specs, more_specs, DeclTree, declared, nameless, pointer, array, function, grouped, InitTree, init, DeclarationTree, declaration, BlockTree, block, ExternalTree, outer_declaration, definition}
-use Rattle.cc_grammar.specs.Outline.{Outline, end, token, part, size, depth, Meets, spell}
+use Rattle.cc_syntax.specs.Trees.{SpecTrees, no_specs, more_specs, DeclTree, declared, nameless, pointer, array, function, grouped, InitTree, init, declaration, BlockTree, ExternalTree, outer_declaration, definition}
+use Rattle.cc_grammar.specs.Outline.{end, size, depth, Meets}
 use Rattle.cc_grammar.specs.Outlines as o
 use Rattle.cc_grammar.specs.Names.{Names, has_typedef, after_external}
-use Rattle.cc_grammar.specs.Classes.{next_is, skip, spot}
-use Rattle.cc_grammar.specs.Reading.{Inner, with_name, readers, spot_or, stmt, external, ended, externals_by, reading}
-use Rattle.cc_parse_laws.proofs.Spans.{Inside, Reads, Split, spelled_reads}
+use Rattle.cc_grammar.specs.Classes.{spot}
+use Rattle.cc_grammar.specs.Reading.{with_name, readers, spot_or, external, ended, externals_by, reading}
+use Rattle.cc_parse_laws.proofs.Spans.{Reads, spelled_reads}
 use Rattle.cc_parse_laws.proofs.Steps.{reads_length}
-use Rattle.cc_parse_laws.proofs.Inner.{CompleteInner, EndsSpecs, EndsDeclarator}
+use Rattle.cc_parse_laws.proofs.Inner.{CompleteInner, EndsDeclarator}
 use Rattle.cc_parse_laws.proofs.Peeks.{after, inside, sign_ends_declarator}
-use Rattle.cc_parse_laws.proofs.Firsts.{inside_sinks, first_specs}
-use Rattle.cc_parse_laws.proofs.Stands.{BeginsDeclarator, named_begins}
-use Rattle.cc_parse_laws.proofs.Pieces.{Got, only, only_counted, comes, got_specs, got_declarator}
+use Rattle.cc_parse_laws.proofs.Firsts.{first_specs}
+use Rattle.cc_parse_laws.proofs.Stands.{named_begins}
+use Rattle.cc_parse_laws.proofs.Pieces.{only, comes, got_specs}
 use Rattle.cc_parse_laws.proofs.CompleteDeclarations.{apart, inits_begin, first_again, inits_again}
 use Rattle.cc_parse_laws.proofs.CompleteStatements.{body_again}
-use Rattle.cc_parse_laws.proofs.CompleteBlocks.{block_is_stmt}
+use Rattle.cc_parse_laws.proofs.CompleteBlocks.{block_size, block_is_stmt}
 
 -- a declarator with a name has the spot that a definition takes from it
 spot_of_named : (f : DeclTree Spot) (n m : Spot) → o.is_named f ≡ true → o.HasSpot f n → spot_or f m ≡ n
@@ -33,15 +33,7 @@ specs_begin : (ss : SpecTrees Spot) → o.HasSpecs ss → (n : Spot) × o.BeginA
 specs_begin no_specs h = absurd h
 specs_begin (more_specs s ss) h = (o.spec_spot s, refl)
 
-block_opens : (names : Names) (b : BlockTree Spot) (d : ℕ) (ts r : List Token) → Reads (o.block_of names b) d ts r → next_is p.LeftBrace ts ≡ true
-block_opens names (block n is) d ts r x =
-    let i = inside (o.block_of names (block n is)) in
-    (comes p.LeftBrace (Some n) (after i) d ts r (inside_sinks true i d ts r (only_counted (Unit {0}) i d ts r x).1)).is
-
 -- each has tokens
-block_size : (names : Names) (b : BlockTree Spot) → 1 ≤ size (o.block_of names b)
-block_size names (block n is) = omega arith
-
 external_size : (names : Names) (x : ExternalTree Spot) → 1 ≤ size (o.external names x)
 external_size names (outer_declaration (declaration n ss is)) = omega arith
 external_size names (definition n ss f b) = omega (arith, block_size names b)
@@ -86,12 +78,11 @@ module _ (readers_complete : (names : Names) (d : ℕ) → CompleteInner names (
       let y = x.3 in
       let begins = named_begins names f d x.0 y.0 y.1 y.2 in
       let z = only (o.block_of names b) d y.0 r y.3 in
-      let brace : next_is p.LeftBrace y.0 ≡ true = block_opens names b d y.0 r z in
-      let ends : EndsDeclarator y.0 = sign_ends_declarator p.LeftBrace y.0 refl refl refl brace in
+      let inner = body_again names d b y.0 r (block_is_stmt readers_complete b) z in
+      let ends : EndsDeclarator y.0 = sign_ends_declarator p.LeftBrace y.0 refl refl refl inner.0 in
       let specs = (readers_complete names d).specs ss first.0 ts x.0 first.1 x.2 (record { no_spec = begins.no_spec; no_brace = begins.no_brace }) in
       let declares = (readers_complete names d).declarator with_name f x.0 y.0 y.1 y.2 ends in
-      let inner = (body_again names d b y.0 r (block_is_stmt readers_complete b) z).1 in
-      rw (specs, begins.no_semicolon, declares, brace, spot_of_named f n (spot ts) y.1 at, inner) refl
+      rw (specs, begins.no_semicolon, declares, inner.0, spot_of_named f n (spot ts) y.1 at, inner.1) refl
 
   pub external_again : (names : Names) (d : ℕ) (x : ExternalTree Spot) (ts r : List Token) → Reads (o.external names x) d ts r → external d names ts ≡ Ok (x, r)
   external_again names d (outer_declaration (declaration n ss is)) ts r x =

@@ -1,22 +1,21 @@
 -- Statements are read back, production by production, over the statements that stand in them.
-use Rattle.std.proofs.Common.{◌≡◌, ◌≤◌, ◌<◌, ◌+◌, refl, ℕ, zero, suc, Bool, true, false, List, [], ◌∷◌, length, Option, Some, None, Result, Ok, Err, arith, sym, ap, ◌∙◌, subst}
+use Rattle.std.proofs.Common.{◌≡◌, ◌≤◌, ◌<◌, refl, ℕ, suc, true, false, List, Option, Some, None, Ok, arith, sym, ◌∙◌, subst}
 use Rattle.cc_tree.specs.declared.place.Spot.{Spot}
 use Rattle.cc_lex.specs.declared.token.Token.{Token}
-use Rattle.cc_lex.specs.declared.token.TokenKind.TheVariants as kind
 use Rattle.cc_lex.specs.declared.keyword.Keyword.TheVariants as k
 use Rattle.cc_lex.specs.declared.punct.Punct.{Punct}
 use Rattle.cc_lex.specs.declared.punct.Punct.TheVariants as p
-use Rattle.cc_syntax.specs.Trees.{ExprTree, DeclarationTree, declaration, StartTree, start_declaration, start_expr, no_start, StmtTree, compound, plain, empty, if_then, if_else, switch, while_loop, do_loop, for_loop, break, continue, return, BlockTree, block, ItemTrees}
-use Rattle.cc_grammar.specs.Outline.{Outline, end, token, part}
+use Rattle.cc_syntax.specs.Trees.{ExprTree, DeclarationTree, declaration, StartTree, start_declaration, start_expr, no_start, StmtTree, compound, plain, empty, if_then, if_else, switch, while_loop, do_loop, for_loop, break, continue, return, BlockTree, block}
+use Rattle.cc_grammar.specs.Outline.{Outline, end}
 use Rattle.cc_grammar.specs.Outlines as o
 use Rattle.cc_grammar.specs.Levels.{level}
-use Rattle.cc_grammar.specs.Names.{Names, has_typedef, after_start, after_stmt}
-use Rattle.cc_grammar.specs.Classes.{next_is, next_is_key, skip, spot, tail_sign, binds, start_sign, begins_nothing, starts_spec, stmt_start}
+use Rattle.cc_grammar.specs.Names.{Names, after_start, after_stmt}
+use Rattle.cc_grammar.specs.Classes.{next_is, next_is_key, skip, spot, tail_sign, binds, start_sign, begins_nothing, starts_spec}
 use Rattle.cc_grammar.specs.Outcomes.{Parser}
-use Rattle.cc_grammar.specs.Reading.{Inner, readers, declaration_at, body, condition, clause_until, start_clause, for_behind, stmt}
-use Rattle.cc_parse_laws.proofs.Spans.{Inside, Reads}
-use Rattle.cc_parse_laws.proofs.Inner.{CompleteInner, Ends}
-use Rattle.cc_parse_laws.proofs.Peeks.{after, inside, sign_spec, sign_key, sign_other, sign_ends}
+use Rattle.cc_grammar.specs.Reading.{readers, body, clause_until, start_clause, stmt}
+use Rattle.cc_parse_laws.proofs.Spans.{Reads}
+use Rattle.cc_parse_laws.proofs.Inner.{CompleteInner}
+use Rattle.cc_parse_laws.proofs.Peeks.{after, inside, sign_spec, sign_ends}
 use Rattle.cc_parse_laws.proofs.Firsts.{inside_sinks, first_operand, opens_not, first_specs}
 use Rattle.cc_parse_laws.proofs.Nexts.{sign_stmt, key_other, key_stmt, expr_other}
 use Rattle.cc_parse_laws.proofs.Stands.{expr_stands}

@@ -1,21 +1,19 @@
 -- Initialisers are read back.
-use Rattle.std.proofs.Common.{◌≡◌, ◌≤◌, ◌<◌, ◌+◌, refl, ℕ, zero, suc, Bool, true, false, List, [], ◌∷◌, length, Option, Some, None, Result, Ok, Err, arith, sym, ap, ◌∙◌, subst}
+use Rattle.std.proofs.Common.{◌≡◌, ◌≤◌, ◌<◌, refl, ℕ, zero, suc, Bool, true, false, List, [], ◌∷◌, length, Option, Some, None, Ok, arith, sym, ap, subst}
 use Rattle.cc_tree.specs.declared.place.Spot.{Spot}
 use Rattle.cc_lex.specs.declared.token.Token.{Token}
-use Rattle.cc_lex.specs.declared.token.TokenKind.TheVariants as kind
 use Rattle.cc_lex.specs.declared.punct.Punct.TheVariants as p
-use Rattle.cc_syntax.specs.declared.operator.Side.TheVariants as side
-use Rattle.cc_syntax.specs.Trees.{ExprTree, string, step, ValueTree, single, braces, ValueTrees, no_values, more_values}
+use Rattle.cc_syntax.specs.Trees.{ExprTree, ValueTree, single, braces, ValueTrees, no_values, more_values}
 use Rattle.cc_syntax.specs.Views.{gathered_values}
-use Rattle.cc_grammar.specs.Outline.{Outline, end, token, part, size}
+use Rattle.cc_grammar.specs.Outline.{end}
 use Rattle.cc_grammar.specs.Outlines as o
 use Rattle.cc_grammar.specs.Levels.{level}
 use Rattle.cc_grammar.specs.Names.{Names}
-use Rattle.cc_grammar.specs.Classes.{next_is, skip, spot, tail, tail_kind, binds}
-use Rattle.cc_grammar.specs.Reading.{Inner, readers, enclosed, value, given}
-use Rattle.cc_parse_laws.proofs.Spans.{Inside, Reads}
-use Rattle.cc_parse_laws.proofs.Steps.{next_token, reads_next, reads_length}
-use Rattle.cc_parse_laws.proofs.Inner.{CompleteInner, Ends, ReadsExpr}
+use Rattle.cc_grammar.specs.Classes.{next_is, skip, binds}
+use Rattle.cc_grammar.specs.Reading.{readers, enclosed, value, given}
+use Rattle.cc_parse_laws.proofs.Spans.{Reads}
+use Rattle.cc_parse_laws.proofs.Steps.{reads_length}
+use Rattle.cc_parse_laws.proofs.Inner.{CompleteInner, Ends}
 use Rattle.cc_parse_laws.proofs.Lists.{Span, Others, Separated, Enclosed, Braced, Again, Shorter, enclosed_again}
 use Rattle.cc_parse_laws.proofs.Peeks.{after, inside, sign_tail, sign_other, sign_ends}
 use Rattle.cc_parse_laws.proofs.Firsts.{inside_sinks, first_operand, opens_not}
@@ -78,9 +76,9 @@ closed names vs false d ts r h x =
 no_equal : (ts : List Token) → Ends 2 ts → next_is p.Equal ts ≡ false
 no_equal ts e = by (next_is p.Equal ts) refl
   where
-  by : (b : Bool) → next_is p.Equal ts ≡ b → next_is p.Equal ts ≡ false
-  by false y = y
-  by true y = let same = sign_tail p.Equal ts y in absurd (omega (arith, e.looser, ap binds same))
+    by : (b : Bool) → next_is p.Equal ts ≡ b → next_is p.Equal ts ≡ false
+    by false y = y
+    by true y = let same = sign_tail p.Equal ts y in absurd (omega (arith, e.looser, ap binds same))
 
 opens : (names : Names) (d : ℕ) (v : ValueTree Spot) (ts r : List Token) → Spanned names d v ts r → next_is p.RightBrace ts ≡ false
 opens names d (single e) ts r x = let y = only_counted (2 ≤ level e) (o.expr names e) d ts r x.0 in opens_not names p.RightBrace ts refl (first_operand names e d ts r y.1)
@@ -106,7 +104,7 @@ module _ (readers_complete : (names : Names) (d : ℕ) → CompleteInner names (
       let shorter : Shorter (Spanned names d) = λ v us q z. value_shorter names v d us q z.0 in
       let spans : Braced (Spanned names d) (listed vs) last ts r = (brace.is, closed names vs last d (skip ts) r y.0 brace.then) in
       let read : enclosed (value names d) ts ≡ Ok ((listed vs, last), r) =
-          enclosed_again (value names d) (Spanned names d) (Ends 2) again shorter (λ us e. sign_ends 2 p.Comma us (omega arith) e) (λ us e. sign_ends 2 p.RightBrace us (omega arith) e) (opens names d) (listed vs) last ts r spans in
+      enclosed_again (value names d) (Spanned names d) (Ends 2) again shorter (λ us e. sign_ends 2 p.Comma us (omega arith) e) (λ us e. sign_ends 2 p.RightBrace us (omega arith) e) (opens names d) (listed vs) last ts r spans in
       rw (brace.is, brace.at, read, gathered_listed vs) refl
 
   pub value_again : (names : Names) (d : ℕ) (v : ValueTree Spot) (ts r : List Token) → Reads (o.value names v) d ts r → Ends 2 r → value names d ts ≡ Ok (v, r)

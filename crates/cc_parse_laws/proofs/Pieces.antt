@@ -1,23 +1,22 @@
 -- Pieces of declarations and statements as they are read, over readers of expressions, specifiers and declarators that read
 -- what is there.
-use Rattle.std.proofs.Common.{◌≡◌, ◌≤◌, ◌<◌, ◌+◌, refl, ℕ, zero, suc, Bool, true, false, List, [], ◌∷◌, length, Option, Some, None, Result, Ok, Err, arith, sym, ap, ◌∙◌, subst}
+use Rattle.std.proofs.Common.{◌≡◌, ◌<◌, refl, ℕ, zero, suc, true, List, Option, None, Ok, arith, subst}
 use Rattle.cc_tree.specs.declared.place.Spot.{Spot}
 use Rattle.cc_lex.specs.declared.token.Token.{Token}
-use Rattle.cc_lex.specs.declared.token.TokenKind.{TokenKind}
 use Rattle.cc_lex.specs.declared.token.TokenKind.TheVariants as kind
 use Rattle.cc_lex.specs.declared.keyword.Keyword.{Keyword}
 use Rattle.cc_lex.specs.declared.punct.Punct.{Punct}
 use Rattle.cc_lex.specs.declared.punct.Punct.TheVariants as p
-use Rattle.cc_syntax.specs.Trees.{ExprTree, SpecTrees, DeclTree, StmtTree}
+use Rattle.cc_syntax.specs.Trees.{ExprTree, SpecTrees, StmtTree}
 use Rattle.cc_grammar.specs.Outline.{Outline, end, token, part, Stands}
 use Rattle.cc_grammar.specs.Outlines as o
 use Rattle.cc_grammar.specs.Names.{Names}
 use Rattle.cc_grammar.specs.Classes.{next_is, next_is_key, skip, spot, tail_sign, binds}
-use Rattle.cc_grammar.specs.Outcomes.{Outcome, Parser, and_then, take, take_key, ◌>>=◌, ◌>>◌, pure}
-use Rattle.cc_grammar.specs.Reading.{Inner, readers, with_name, condition}
+use Rattle.cc_grammar.specs.Outcomes.{Parser, take, take_key}
+use Rattle.cc_grammar.specs.Reading.{readers, condition}
 use Rattle.cc_parse_laws.proofs.Spans.{Inside, Reads}
 use Rattle.cc_parse_laws.proofs.Steps.{next_token, reads_next, reads_next_key, reads_take, reads_take_key}
-use Rattle.cc_parse_laws.proofs.Inner.{CompleteInner, Ends, EndsSpecs, EndsDeclarator}
+use Rattle.cc_parse_laws.proofs.Inner.{CompleteInner, Ends, EndsSpecs}
 use Rattle.cc_parse_laws.proofs.Peeks.{sign_ends}
 
 -- a step reads this, and the rest of the outline is what comes after
@@ -62,10 +61,6 @@ only i d ts r x = subst (λ m. Reads i d ts m) x.3 x.2
 pub only_counted : (h : Type 0) (i : Outline) (d : ℕ) (ts r : List Token) → Reads (part true h i end) d ts r → h × Inside true (λ e. Reads i e ts r) d
 only_counted h i d ts r x = (x.1, subst (λ m. Inside true (λ e. Reads i e ts m) d) x.3 x.2)
 
--- a step before another
-pub chain : {A B : Type 0} (read : Parser A) (f : A → Parser B) (ts m : List Token) (a : A) (y : Outcome B) → read ts ≡ Ok (a, m) → f a m ≡ y → and_then (read ts) f ≡ y
-chain read f ts m a y e g = ap (λ z. and_then z f) e ∙ g
-
 module _ (readers_complete : (names : Names) (d : ℕ) → CompleteInner names (readers names d) d) where
   -- an expression before a punctuator that ends it
   pub got_expr : (names : Names) (d least : ℕ) (e : ExprTree Spot) (s : Punct) (i : Outline) (ts r : List Token) → binds (tail_sign s) < least
@@ -77,11 +72,6 @@ module _ (readers_complete : (names : Names) (d : ℕ) → CompleteInner names (
   pub got_specs : (names : Names) (d : ℕ) (ss : SpecTrees Spot) (n : Spot) (i : Outline) (ts r : List Token) → o.BeginAt ss n → ((m : List Token) → Reads i d m r → EndsSpecs names m)
       → Reads (o.within (o.specs names ss) i) d ts r → Got (readers names d).specs ss i d ts r
   got_specs names d ss n i ts r b ends x = record { rest = x.0; reads = (readers_complete names d).specs ss n ts x.0 b x.2 (ends x.0 x.3); then = x.3 }
-
-  -- a declarator with a name
-  pub got_declarator : (names : Names) (d : ℕ) (f : DeclTree Spot) (i : Outline) (ts r : List Token) → ((m : List Token) → Reads i d m r → EndsDeclarator m)
-      → Reads (o.named_one f (o.declarator names f) i) d ts r → Got ((readers names d).declarator with_name) f i d ts r
-  got_declarator names d f i ts r ends x = record { rest = x.0; reads = (readers_complete names d).declarator with_name f ts x.0 x.1 x.2 (ends x.0 x.3); then = x.3 }
 
   -- an expression in parentheses
   pub got_condition : (inner : Names → Parser (StmtTree Spot)) (names : Names) (d : ℕ) (c : ExprTree Spot) (i : Outline) (ts r : List Token)

@@ -1,5 +1,5 @@
 -- Where the first token of an expression stands, and with which tokens a declarator with a name begins.
-use Rattle.std.proofs.Common.{◌≡◌, ◌≤◌, ◌<◌, ◌+◌, refl, ℕ, zero, suc, Bool, true, false, List, [], ◌∷◌, length, Option, Some, None, arith, sym, ap, ◌∙◌}
+use Rattle.std.proofs.Common.{◌≡◌, refl, ℕ, true, false, List, [], ◌∷◌, Option, Some, sym, ◌∙◌}
 use Rattle.cc_tree.specs.declared.place.Spot.{Spot}
 use Rattle.cc_lex.specs.declared.token.Token.{Token}
 use Rattle.cc_lex.specs.declared.token.TokenKind.{TokenKind}
@@ -7,14 +7,14 @@ use Rattle.cc_lex.specs.declared.token.TokenKind.TheVariants as kind
 use Rattle.cc_lex.specs.declared.keyword.Keyword.TheVariants as k
 use Rattle.cc_lex.specs.declared.punct.Punct.TheVariants as p
 use Rattle.cc_syntax.specs.declared.operator.Side.TheVariants as side
-use Rattle.cc_syntax.specs.Trees.{ExprTree, name, integer, character, string, paren, unary, binary, assign, step, choice, comma, call, member, arrow, index, cast, size_expr, size_type, SpecTree, word, named, struct, enum, SpecTrees, no_specs, more_specs, DeclTree, declared, nameless, pointer, array, function, grouped}
+use Rattle.cc_syntax.specs.Trees.{ExprTree, name, integer, character, string, paren, unary, binary, assign, step, choice, comma, call, member, arrow, index, cast, size_expr, size_type, DeclTree, declared, nameless, pointer, array, function, grouped}
 use Rattle.cc_grammar.specs.Levels.{unary_sign, step_sign}
-use Rattle.cc_grammar.specs.Outline.{Outline, end, token, part, size}
+use Rattle.cc_grammar.specs.Outline.{Outline, end, token}
 use Rattle.cc_grammar.specs.Outlines as o
 use Rattle.cc_grammar.specs.Names.{Names, is_type}
 use Rattle.cc_grammar.specs.Classes.{is_punct, next_is, spot, spec_kind, is_spec, starts_spec}
 use Rattle.cc_parse_laws.proofs.Spans.{Reads}
-use Rattle.cc_parse_laws.proofs.Steps.{next_token, reads_length}
+use Rattle.cc_parse_laws.proofs.Steps.{next_token}
 use Rattle.cc_parse_laws.proofs.Inner.{ReadsDeclarator}
 use Rattle.cc_parse_laws.proofs.Peeks.{after, inside, at_token}
 use Rattle.cc_parse_laws.proofs.Firsts.{inside_sinks, not_named}
@@ -46,19 +46,6 @@ expr_stands names (cast n t e) d ts r y = token_stands (Unit {0}) (kind.Punct p.
 expr_stands names (size_expr n e) d ts r y = token_stands (Unit {0}) (kind.Keyword k.Sizeof) n (after (o.expr names (size_expr n e))) d ts r y
 expr_stands names (size_type n t) d ts r y = token_stands (Unit {0}) (kind.Keyword k.Sizeof) n (after (o.expr names (size_type n t))) d ts r y
 
--- ---- Specifiers
-
-spec_size : (names : Names) (s : SpecTree Spot) → 1 ≤ size (o.spec names s)
-spec_size names (word n v) = omega arith
-spec_size names (named n y) = omega arith
-spec_size names (struct n tag ms) = omega arith
-spec_size names (enum n tag cs b) = omega arith
-
--- they have tokens
-pub specs_shorten : (names : Names) (ss : SpecTrees Spot) (n : Spot) (d : ℕ) (ts r : List Token) → o.BeginAt ss n → Reads (o.specs names ss) d ts r → length r < length ts
-specs_shorten names no_specs n d ts r b x = absurd b
-specs_shorten names (more_specs s ss) n d ts r b x = omega (arith, spec_size names s, reads_length (o.specs names (more_specs s ss)) d ts r x)
-
 -- ---- Declarators
 
 -- neither a specifier, `{` nor `;` comes next
@@ -70,10 +57,10 @@ pub record BeginsDeclarator (names : Names) (ts : List Token) : Type 0 where
 begins_at : (names : Names) (h : Type 0) (k : TokenKind) (n : Option Spot) (i : Outline) (d : ℕ) (ts r : List Token) → is_spec (spec_kind names k) ≡ false → is_punct p.LeftBrace k ≡ false → is_punct p.Semicolon k ≡ false
     → Reads (token h k n i) d ts r → BeginsDeclarator names ts
 begins_at names h k n i d ts r a b c x = record {
-      no_spec = at_token (starts_spec names) (λ q. is_spec (spec_kind names q)) (λ t us. refl) h k n i d ts r x ∙ a;
-      no_brace = at_token (next_is p.LeftBrace) (is_punct p.LeftBrace) (λ t us. refl) h k n i d ts r x ∙ b;
-      no_semicolon = at_token (next_is p.Semicolon) (is_punct p.Semicolon) (λ t us. refl) h k n i d ts r x ∙ c;
-    }
+  no_spec = at_token (starts_spec names) (λ q. is_spec (spec_kind names q)) (λ t us. refl) h k n i d ts r x ∙ a;
+  no_brace = at_token (next_is p.LeftBrace) (is_punct p.LeftBrace) (λ t us. refl) h k n i d ts r x ∙ b;
+  no_semicolon = at_token (next_is p.Semicolon) (is_punct p.Semicolon) (λ t us. refl) h k n i d ts r x ∙ c;
+}
 
 declarator_begins : (names : Names) (f : DeclTree Spot) (d : ℕ) (ts r : List Token) → o.is_named f ≡ true → Reads (o.declarator names f) d ts r → BeginsDeclarator names ts
 declarator_begins names (declared n y) d ts r h x =
