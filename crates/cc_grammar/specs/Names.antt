@@ -1,7 +1,8 @@
 -- Typedef names. A name becomes one where its declarator in a declaration with `typedef` ends, in a file, a block or the
 -- first clause of a `for`, and stays one to the file's end.
-use Rattle.std.specs.Prelude.{Bool, true, false, ◌||◌, List, [], ◌∷◌, if◌then◌else◌}
-use Rattle.cc_lex.specs.Spellings.{same}
+use Rattle.std.specs.Prelude.{Bool, true, false, ◌||◌, List, [], ◌∷◌, ◌++◌, if◌then◌else◌}
+use Rattle.std.specs.List.{list_any}
+use Rattle.std.specs.Str.{bytes_eq}
 use Rattle.cc_syntax.specs.Trees.{Name, SpecTree, word, named, struct, enum, SpecTrees, no_specs, more_specs, DeclTree, declared, nameless, pointer, array, function, grouped, InitTree, init, DeclarationTree, declaration, StartTree, start_declaration, start_expr, no_start, StmtTree, compound, plain, empty, if_then, if_else, switch, while_loop, do_loop, for_loop, break, continue, return, BlockTree, block, ItemTree, declares, case_label, default_label, does, ItemTrees, no_items, more_items, ExternalTree, outer_declaration, definition}
 use Rattle.cc_syntax.specs.declared.operator.SpecWord.{SpecWord}
 use Rattle.cc_syntax.specs.declared.operator.SpecWord.TheVariants as w
@@ -10,12 +11,15 @@ abbrev pub Names : Type 0
 Names = List Name
 
 abbrev pub is_type : Names → Name → Bool
-is_type [] x = false
-is_type (t ∷ ts) x = same t x || is_type ts x
+is_type names x = list_any (bytes_eq x) names
 
 abbrev pub is_typedef_word : SpecWord → Bool
 is_typedef_word w.Typedef = true
 is_typedef_word _ = false
+
+-- with this name too, once
+abbrev pub added : Name → Names → Names
+added x names = if is_type names x then names else names ++ x ∷ []
 
 -- what is written as `typedef` itself, not inside of a struct
 abbrev pub is_typedef : {N : Type 0} → SpecTree N → Bool
@@ -29,7 +33,7 @@ has_typedef no_specs = false
 has_typedef (more_specs s ss) = is_typedef s || has_typedef ss
 
 abbrev pub with_declared : {N : Type 0} → DeclTree N → Names → Names
-with_declared (declared n x) names = x ∷ names
+with_declared (declared n x) names = added x names
 with_declared nameless names = names
 with_declared (pointer n k d) names = with_declared d names
 with_declared (array n d length) names = with_declared d names
