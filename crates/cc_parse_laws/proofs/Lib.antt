@@ -4,6 +4,7 @@ pub mod Edges
 pub mod FirstDeclarators
 pub mod Firsts
 pub mod Inner
+pub mod Listed
 pub mod Lists
 pub mod Peeks
 pub mod Spans
