@@ -1,4 +1,5 @@
 pub mod Climbs
+pub mod CompleteTypes
 pub mod Depths
 pub mod Edges
 pub mod FirstDeclarators
