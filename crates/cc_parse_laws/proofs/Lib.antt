@@ -1,4 +1,6 @@
 pub mod Climbs
+pub mod CompleteExpressions
+pub mod CompletePrefixes
 pub mod CompleteTypes
 pub mod Depths
 pub mod Edges
