@@ -1,4 +1,5 @@
 pub mod Climbs
+pub mod CompleteDeclarators
 pub mod CompleteExpressions
 pub mod CompletePrefixes
 pub mod CompleteTypes
