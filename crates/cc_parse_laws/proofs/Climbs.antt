@@ -27,7 +27,7 @@ bound f r a m e = ap (λ z. and_then z f) e
 pub mapped : {A B : Type 0} (f : A → B) (r : Outcome A) (a : A) (m : List Token) → r ≡ Ok (a, m) → and_then r (λ x s. Ok (f x, s)) ≡ Ok (f a, m)
 mapped f r a m e = ap (λ z. and_then z (λ x s. Ok (f x, s))) e
 
-abbrev done : {A : Type 0} → A → List Token → Outcome A
+abbrev pub done : {A : Type 0} → A → List Token → Outcome A
 done a m = Ok (a, m)
 
 pub rest_is : {A : Type 0} (a : A) (m r : List Token) → m ≡ r → done a m ≡ done a r

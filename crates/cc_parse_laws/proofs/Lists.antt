@@ -165,7 +165,7 @@ not_comma : (ts : List Token) → next_is p.RightBrace ts ≡ true → next_is p
 not_comma [] e = absurd cc
 not_comma (t ∷ ts) e = ap (is_punct p.Comma) (punct_kind p.RightBrace t.kind e)
 
-takes : (s : Punct) (ts : List Token) → next_is s ts ≡ true → take s ts ≡ Ok (tt, skip ts)
+pub takes : (s : Punct) (ts : List Token) → next_is s ts ≡ true → take s ts ≡ Ok (tt, skip ts)
 takes s [] e = absurd cc
 takes s (t ∷ ts) e = rw e refl
 
