@@ -20,6 +20,7 @@ unfolding whole
 same_file f g e = ap (λ (y : List (ExternalTree Spot) × List Token). y.0) (ok_is (f, []) (g, []) e)
 
 module _ (readers_complete : (names : Names) (d : ℕ) → CompleteInner names (readers names d) d) where
+  -- Both are read at the greater of their depths, and reading gives one file.
   pub one_tree : (tokens : List Token) (f g : List (ExternalTree Spot)) → o.Orderly f → o.Spells f tokens → o.Orderly g → o.Spells g tokens → f ≡ g
   unfolding whole
   one_tree tokens f g orderly_f spells_f orderly_g spells_g =

@@ -69,6 +69,7 @@ module _ (readers_complete : (names : Names) (d : ℕ) → CompleteInner names (
       let ends : Ends least x.0 = sign_ends least s x.0 h (reads_next (Unit {0}) s None i d x.0 r x.3) in
       record { rest = x.0; reads = (readers_complete names d).expr least e ts x.0 x.1 x.2 ends; then = x.3 }
 
+  -- specifiers, where what comes after goes on with none
   pub got_specs : (names : Names) (d : ℕ) (ss : SpecTrees Spot) (n : Spot) (i : Outline) (ts r : List Token) → o.BeginAt ss n → ((m : List Token) → Reads i d m r → EndsSpecs names m)
       → Reads (o.within (o.specs names ss) i) d ts r → Got (readers names d).specs ss i d ts r
   got_specs names d ss n i ts r b ends x = record { rest = x.0; reads = (readers_complete names d).specs ss n ts x.0 b x.2 (ends x.0 x.3); then = x.3 }
