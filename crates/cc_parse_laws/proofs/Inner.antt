@@ -2,12 +2,13 @@
 use Rattle.std.proofs.Common.{◌≡◌, ◌≤◌, ◌<◌, ℕ, true, false, List, None, Ok}
 use Rattle.cc_tree.specs.declared.place.Spot.{Spot}
 use Rattle.cc_lex.specs.declared.token.Token.{Token}
+use Rattle.cc_lex.specs.declared.keyword.Keyword.TheVariants as k
 use Rattle.cc_lex.specs.declared.punct.Punct.TheVariants as p
 use Rattle.cc_syntax.specs.Trees.{ExprTree, SpecTrees, DeclTree}
 use Rattle.cc_grammar.specs.Levels.{level}
 use Rattle.cc_grammar.specs.Names.{Names}
 use Rattle.cc_grammar.specs.Outlines as o
-use Rattle.cc_grammar.specs.Classes.{next_is, next_ident, spot, starts_spec, tail, binds}
+use Rattle.cc_grammar.specs.Classes.{next_is, next_is_key, next_ident, next_literal, spot, starts_spec, tail, binds}
 use Rattle.cc_grammar.specs.Reading.{Inner, Mode, with_name, without_name, with_or_without}
 use Rattle.cc_parse_laws.proofs.Spans.{Inside, Reads}
 
@@ -31,9 +32,10 @@ pub record SoundInner (names : Names) (inner : Inner) (d : ℕ) : Type 0 where
   pub specs : (ts : List Token) (x : SpecTrees Spot × List Token) → inner.specs ts ≡ Ok x → o.BeginAt x.0 (spot ts) × Reads (o.specs names x.0) d ts x.1
   pub declarator : (mode : Mode) (ts : List Token) (x : DeclTree Spot × List Token) → inner.declarator mode ts ≡ Ok x → Suits mode x.0 × ReadsDeclarator names d x.0 ts x.1
 
--- a token that binds less than this follows, or none
-abbrev pub Ends : ℕ → List Token → Type 0
-Ends n r = binds (tail r) < n
+-- a token that binds less than this follows, or none, and no string literal, which would go on with one
+pub record Ends (n : ℕ) (r : List Token) : Type 0 where
+  pub looser : binds (tail r) < n
+  pub no_literal : next_literal r ≡ None
 
 -- no token follows that could go on with specifiers
 pub record EndsSpecs (names : Names) (r : List Token) : Type 0 where
@@ -46,6 +48,7 @@ pub record EndsDeclarator (r : List Token) : Type 0 where
   pub no_paren : next_is p.LeftParen r ≡ false
   pub no_star : next_is p.Star r ≡ false
   pub no_name : next_ident r ≡ None
+  pub no_const : next_is_key k.Const r ≡ false
 
 -- what is there is read
 pub record CompleteInner (names : Names) (inner : Inner) (d : ℕ) : Type 0 where

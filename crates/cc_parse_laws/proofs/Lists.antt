@@ -1,11 +1,12 @@
 -- Lists as they are read: one item after another, with commas between them, up to a brace or as long as another begins.
-use Rattle.std.proofs.Common.{◌≡◌, ◌<◌, refl, ℕ, zero, suc, Bool, true, false, List, [], ◌∷◌, length, Ok, arith, sym, ap, ◌∙◌, subst, inl, inr}
+use Rattle.std.proofs.Common.{◌≡◌, ◌≤◌, ◌<◌, ◌+◌, refl, ℕ, zero, suc, Bool, true, false, List, [], ◌∷◌, length, Result, Ok, Err, arith, sym, ap, ◌∙◌, subst, ◌⊎◌, inl, inr}
 use Rattle.cc_lex.specs.declared.token.Token.{Token}
+use Rattle.cc_lex.specs.declared.punct.Punct.{Punct}
 use Rattle.cc_lex.specs.declared.punct.Punct.TheVariants as p
-use Rattle.cc_grammar.specs.Classes.{next_is, skip}
-use Rattle.cc_grammar.specs.Outcomes.{Parser, and_then, take, ◌>>◌, pure, ◌<$>◌}
-use Rattle.cc_grammar.specs.Reading.{where_next, skipping, separated_by, separated, enclosed_by, enclosed, repeated_by, repeated}
-use Rattle.cc_parse_laws.proofs.Steps.{bind_ok, map_ok, ok_is, branched, branch_true, branch_false, take_ok}
+use Rattle.cc_grammar.specs.Classes.{next_is, is_punct, skip}
+use Rattle.cc_grammar.specs.Outcomes.{Outcome, Parser, and_then, take, ◌>>=◌, ◌>>◌, pure, ◌<$>◌}
+use Rattle.cc_grammar.specs.Reading.{branch, where_next, skipping, separated_by, separated, enclosed_by, enclosed, repeated_by, repeated}
+use Rattle.cc_parse_laws.proofs.Steps.{punct_kind, bind_ok, map_ok, ok_is, branched, branch_true, branch_false, take_ok}
 
 -- what an item of a list reads, from some tokens to others
 abbrev pub Span : Type 0 → Type 1
@@ -148,3 +149,113 @@ repeated_by_sound {A} more read P sound (suc turns) ts x e =
 
 pub repeated_sound : {A : Type 0} (more : List Token → Bool) (read : Parser A) (P : Span A) → IsSound read P → IsSound (repeated more read) (Repeated more P)
 repeated_sound more read P sound ts x e = repeated_by_sound more read P sound (length ts) ts x e
+
+-- ---- Read back
+
+pub all_again : {A : Type 0} (read : Parser A) (P : Span A) (Follows : List Token → Type 0) → ((x : A) → Again read P Follows x) → (xs : List A) → AllAgain read P Follows xs
+all_again read P Follows again [] = tt
+all_again read P Follows again (x ∷ xs) = (again x, all_again read P Follows again xs)
+
+-- each item has a token
+abbrev pub Shorter : {A : Type 0} → Span A → Type 0
+Shorter {A} P = (x : A) (ts r : List Token) → P x ts r → length r < length ts
+
+-- the comma is no brace
+not_comma : (ts : List Token) → next_is p.RightBrace ts ≡ true → next_is p.Comma ts ≡ false
+not_comma [] e = absurd cc
+not_comma (t ∷ ts) e = ap (is_punct p.Comma) (punct_kind p.RightBrace t.kind e)
+
+pub takes : (s : Punct) (ts : List Token) → next_is s ts ≡ true → take s ts ≡ Ok (tt, skip ts)
+takes s [] e = absurd cc
+takes s (t ∷ ts) e = rw e refl
+
+skip_length : (ts : List Token) → length (skip ts) ≤ length ts
+skip_length [] = omega arith
+skip_length (t ∷ ts) = omega arith
+
+module _ {A : Type 0} (read : Parser A) (P : Span A) (Follows : List Token → Type 0) (again : (x : A) → Again read P Follows x) (shorter : Shorter P) where
+  -- an item takes one turn
+  others_length : (xs : List A) (ts r : List Token) → Others P xs ts r → length xs + length r ≤ length ts
+  others_length [] ts r o = omega (arith, ap length o)
+  others_length (x ∷ xs) ts r o = omega (arith, skip_length ts, shorter x (skip ts) o.0 o.2, others_length xs o.0 r o.3)
+
+  following_length : (more : List Token → Bool) (xs : List A) (ts r : List Token) → Following more P xs ts r → length xs + length r ≤ length ts
+  following_length more [] ts r o = omega (arith, ap length o)
+  following_length more (x ∷ xs) ts r o = omega (arith, shorter x ts o.0 o.2, following_length more xs o.0 r o.3)
+
+  pub separated_again : (comma : (ts : List Token) → next_is p.Comma ts ≡ true → Follows ts) (xs : List A) (ts r : List Token) → Separated P xs ts r → next_is p.Comma r ≡ false → Follows r → separated read ts ≡ Ok (xs, r)
+  separated_again comma [] ts r s e f = absurd s
+  separated_again comma (x ∷ xs) ts r s e f =
+      separated_by_again read P Follows comma xs x ts s.0 r (length ts) (again x) (all_again read P Follows again xs) s.1 s.2 e f (omega (arith, shorter x ts s.0 s.1, others_length xs s.0 r s.2))
+
+  pub repeated_by_again : (more : List Token → Bool) → ((ts : List Token) → more ts ≡ true → Follows ts) → (xs : List A) (x : A) (ts m r : List Token) (turns : ℕ) → P x ts m → Following more P xs m r → more r ≡ false → Follows r → length xs < turns
+      → repeated_by more read turns ts ≡ Ok (x ∷ xs, r)
+  repeated_by_again more goes xs x ts m r zero s o e f h = absurd (omega (arith, h))
+  repeated_by_again more goes [] x ts m r (suc turns) s o e f h =
+      let first : read ts ≡ Ok (x, m) = again x ts m s (subst Follows (sym o) f) in
+      ap (λ y. and_then y (λ z. where_next more ((λ zs. z ∷ zs) <$> repeated_by more read turns) (pure (z ∷ [])))) first
+      ∙ branch_false (more m) ((λ zs. x ∷ zs) <$> repeated_by more read turns) (pure (x ∷ [])) m (ap more o ∙ e)
+      ∙ ap (λ us. Ok (x ∷ [], us)) o
+  repeated_by_again more goes (y ∷ ys) x ts m r (suc turns) s o e f h =
+      let first : read ts ≡ Ok (x, m) = again x ts m s (goes m o.1) in
+      let rest : repeated_by more read turns m ≡ Ok (y ∷ ys, r) = repeated_by_again more goes ys y m o.0 r turns o.2 o.3 e f (omega (arith, h)) in
+      ap (λ z. and_then z (λ w. where_next more ((λ zs. w ∷ zs) <$> repeated_by more read turns) (pure (w ∷ [])))) first
+      ∙ branch_true (more m) ((λ zs. x ∷ zs) <$> repeated_by more read turns) (pure (x ∷ [])) m o.1
+      ∙ ap (λ z. and_then z (λ w us. Ok (x ∷ w, us))) rest
+
+  pub repeated_again : (more : List Token → Bool) → ((ts : List Token) → more ts ≡ true → Follows ts) → (xs : List A) (ts r : List Token) → Repeated more P xs ts r → more r ≡ false → Follows r → repeated more read ts ≡ Ok (xs, r)
+  repeated_again more goes [] ts r s e f = absurd s
+  repeated_again more goes (x ∷ xs) ts r s e f =
+      repeated_by_again more goes xs x ts s.0 r (length ts) s.1 s.2 e f (omega (arith, shorter x ts s.0 s.1, following_length more xs s.0 r s.2))
+
+  module _ (comma : (ts : List Token) → next_is p.Comma ts ≡ true → Follows ts) (brace : (ts : List Token) → next_is p.RightBrace ts ≡ true → Follows ts) (opens : (x : A) (ts r : List Token) → P x ts r → next_is p.RightBrace ts ≡ false) where
+    -- what is read after an item
+    abbrev behind_item : ℕ → A → Parser (List A × Bool)
+    behind_item turns z = where_next (next_is p.Comma)
+        (skipping (where_next (next_is p.RightBrace) (skipping (pure (z ∷ [], true))) ((λ xs. (z ∷ xs.0, xs.1)) <$> enclosed_by read turns)))
+        (take p.RightBrace >> pure (z ∷ [], false))
+
+    -- the end of a list in braces
+    abbrev Closes : Bool → List Token → List Token → Type 0
+    Closes true q r = (next_is p.Comma q ≡ true) × (next_is p.RightBrace (skip q) ≡ true) × (skip (skip q) ≡ r)
+    Closes false q r = (next_is p.RightBrace q ≡ true) × (skip q ≡ r)
+
+    closes_follow : (last : Bool) (q r : List Token) → Closes last q r → Follows q
+    closes_follow true q r c = comma q c.0
+    closes_follow false q r c = brace q c.0
+
+    closed : (last : Bool) (x : A) (turns : ℕ) (q r : List Token) → Closes last q r → behind_item turns x q ≡ Ok ((x ∷ [], last), r)
+    closed true x turns q r c =
+        branch_true (next_is p.Comma q) (skipping (where_next (next_is p.RightBrace) (skipping (pure (x ∷ [], true))) ((λ xs. (x ∷ xs.0, xs.1)) <$> enclosed_by read turns))) (take p.RightBrace >> pure (x ∷ [], false)) q c.0
+        ∙ branch_true (next_is p.RightBrace (skip q)) (skipping (pure (x ∷ [], true))) ((λ xs. (x ∷ xs.0, xs.1)) <$> enclosed_by read turns) (skip q) c.1
+        ∙ ap (λ us. Ok ((x ∷ [], true), us)) c.2
+    closed false x turns q r c =
+        branch_false (next_is p.Comma q) (skipping (where_next (next_is p.RightBrace) (skipping (pure (x ∷ [], true))) ((λ xs. (x ∷ xs.0, xs.1)) <$> enclosed_by read turns))) (take p.RightBrace >> pure (x ∷ [], false)) q (not_comma q c.0)
+        ∙ ap (λ y. and_then y (λ z us. Ok ((x ∷ [], false), us))) (takes p.RightBrace q c.0)
+        ∙ ap (λ us. Ok ((x ∷ [], false), us)) c.1
+
+    pub enclosed_by_again : (last : Bool) (xs : List A) (x : A) (ts m q r : List Token) (turns : ℕ) → P x ts m → Others P xs m q → Closes last q r → length xs < turns → enclosed_by read turns ts ≡ Ok ((x ∷ xs, last), r)
+    enclosed_by_again last xs x ts m q r zero s o c h = absurd (omega (arith, h))
+    enclosed_by_again last [] x ts m q r (suc turns) s o c h =
+        let first : read ts ≡ Ok (x, m) = again x ts m s (subst Follows (sym o) (closes_follow last q r c)) in
+        ap (λ y. and_then y (behind_item turns)) first ∙ ap (behind_item turns x) o ∙ closed last x turns q r c
+    enclosed_by_again last (y ∷ ys) x ts m q r (suc turns) s o c h =
+        let first : read ts ≡ Ok (x, m) = again x ts m s (comma m o.1) in
+        let rest : enclosed_by read turns (skip m) ≡ Ok ((y ∷ ys, last), r) = enclosed_by_again last ys y (skip m) o.0 q r turns o.2 o.3 c (omega (arith, h)) in
+        ap (λ z. and_then z (behind_item turns)) first
+        ∙ branch_true (next_is p.Comma m) (skipping (where_next (next_is p.RightBrace) (skipping (pure (x ∷ [], true))) ((λ xs. (x ∷ xs.0, xs.1)) <$> enclosed_by read turns))) (take p.RightBrace >> pure (x ∷ [], false)) m o.1
+        ∙ branch_false (next_is p.RightBrace (skip m)) (skipping (pure (x ∷ [], true))) ((λ xs. (x ∷ xs.0, xs.1)) <$> enclosed_by read turns) (skip m) (opens y (skip m) o.0 o.2)
+        ∙ ap (λ z. and_then z (λ w us. Ok ((x ∷ w.0, w.1), us))) rest
+
+    enclosed_on : (last : Bool) (x : A) (xs : List A) (ts m q r : List Token) → P x ts m → Others P xs m q → Closes last q r → enclosed_by read (length ts) ts ≡ Ok ((x ∷ xs, last), r)
+    enclosed_on last x xs ts m q r s o c = enclosed_by_again last xs x ts m q r (length ts) s o c (omega (arith, shorter x ts m s, others_length xs m q o))
+
+    enclosed_inside : (xs : List A) (last : Bool) (ts r : List Token) → Enclosed P xs last ts r → enclosed_by read (length ts) ts ≡ Ok ((xs, last), r)
+    enclosed_inside [] true ts r s = absurd (s.1)
+    enclosed_inside [] false ts r s = absurd (s.1)
+    enclosed_inside (x ∷ xs) true ts r s = enclosed_on true x xs ts s.1.0 s.0 r s.1.1 s.1.2 (s.2, s.3, s.4)
+    enclosed_inside (x ∷ xs) false ts r s = enclosed_on false x xs ts s.1.0 s.0 r s.1.1 s.1.2 (s.2, s.3)
+
+    pub enclosed_again : (xs : List A) (last : Bool) (ts r : List Token) → Braced P xs last ts r → enclosed read ts ≡ Ok ((xs, last), r)
+    enclosed_again xs last ts r s =
+        ap (λ z. and_then z (λ w us. enclosed_by read (length us) us)) (takes p.LeftBrace ts s.0) ∙ enclosed_inside xs last (skip ts) r s.1

@@ -1,0 +1,82 @@
+-- What is known of the next token.
+use Rattle.std.proofs.Common.{◌≡◌, ◌≤◌, ◌<◌, ◌+◌, refl, ℕ, zero, suc, Bool, true, false, List, [], ◌∷◌, length, Option, Some, None, arith, sym, ap, ◌∙◌}
+use Rattle.cc_tree.specs.declared.place.Spot.{Spot}
+use Rattle.cc_lex.specs.declared.token.Token.{Token}
+use Rattle.cc_lex.specs.declared.token.TokenKind.{TokenKind}
+use Rattle.cc_lex.specs.declared.token.TokenKind.TheVariants as kind
+use Rattle.cc_lex.specs.declared.keyword.Keyword.{Keyword}
+use Rattle.cc_lex.specs.declared.keyword.Keyword.TheVariants as k
+use Rattle.cc_lex.specs.declared.punct.Punct.{Punct}
+use Rattle.cc_lex.specs.declared.punct.Punct.TheVariants as p
+use Rattle.cc_grammar.specs.Names.{Names}
+use Rattle.cc_grammar.specs.Outline.{Outline, end, token, part}
+use Rattle.cc_grammar.specs.Classes.{next_is, next_is_key, skip, start, start_kind, Start, begins_nothing, tail, tail_kind, next_ident, ident, next_literal, literal, is_punct, is_keyword, spec_start, spec_kind, starts_spec, is_spec, no_spec, binds, same_punct}
+use Rattle.cc_parse_laws.proofs.Spans.{Reads}
+use Rattle.cc_parse_laws.proofs.Steps.{punct_kind, keyword_kind}
+use Rattle.cc_parse_laws.proofs.Inner.{Ends, EndsSpecs, EndsDeclarator}
+
+-- what comes after the first of an outline, and what is in it
+abbrev pub after : Outline → Outline
+after end = end
+after (token h k n o) = o
+after (part c h i o) = o
+
+abbrev pub inside : Outline → Outline
+inside end = end
+inside (token h k n o) = end
+inside (part c h i o) = i
+
+-- a test of the next token, where its kind is known
+pub at_token : {B : Type 0} (f : List Token → B) (g : TokenKind → B) → ((t : Token) (ts : List Token) → f (t ∷ ts) ≡ g t.kind)
+    → (h : Type 0) (k : TokenKind) (n : Option Spot) (o : Outline) (d : ℕ) (ts r : List Token) → Reads (token h k n o) d ts r → f ts ≡ g k
+at_token f g same h k n o d [] r x = absurd x
+at_token f g same h k n o d (t ∷ ts) r x = same t ts ∙ ap g x.1
+
+pub at_sign : {B : Type 0} (f : List Token → B) (g : TokenKind → B) → ((t : Token) (ts : List Token) → f (t ∷ ts) ≡ g t.kind)
+    → (s : Punct) (ts : List Token) → next_is s ts ≡ true → f ts ≡ g (kind.Punct s)
+at_sign f g same s [] e = absurd cc
+at_sign f g same s (t ∷ ts) e = same t ts ∙ ap g (punct_kind s t.kind e)
+
+pub at_key : {B : Type 0} (f : List Token → B) (g : TokenKind → B) → ((t : Token) (ts : List Token) → f (t ∷ ts) ≡ g t.kind)
+    → (w : Keyword) (ts : List Token) → next_is_key w ts ≡ true → f ts ≡ g (kind.Keyword w)
+at_key f g same w [] e = absurd cc
+at_key f g same w (t ∷ ts) e = same t ts ∙ ap g (keyword_kind w t.kind e)
+
+pub sign_tail : (s : Punct) (ts : List Token) → next_is s ts ≡ true → tail ts ≡ tail_kind (kind.Punct s)
+sign_tail s ts e = at_sign tail tail_kind (λ t us. refl) s ts e
+
+pub sign_literal : (s : Punct) (ts : List Token) → next_is s ts ≡ true → next_literal ts ≡ None
+sign_literal s ts e = at_sign next_literal literal (λ t us. refl) s ts e
+
+pub sign_ident : (s : Punct) (ts : List Token) → next_is s ts ≡ true → next_ident ts ≡ None
+sign_ident s ts e = at_sign next_ident ident (λ t us. refl) s ts e
+
+pub sign_spec : (names : Names) (s : Punct) (ts : List Token) → next_is s ts ≡ true → starts_spec names ts ≡ false
+sign_spec names s ts e = at_sign (starts_spec names) (λ c. is_spec (spec_kind names c)) (λ t us. refl) s ts e
+
+pub sign_key : (w : Keyword) (s : Punct) (ts : List Token) → next_is s ts ≡ true → next_is_key w ts ≡ false
+sign_key w s ts e = at_sign (next_is_key w) (is_keyword w) (λ t us. refl) s ts e
+
+-- another punctuator
+pub sign_other : (u s : Punct) (ts : List Token) → same_punct u s ≡ false → next_is s ts ≡ true → next_is u ts ≡ false
+sign_other u s ts other e = at_sign (next_is u) (is_punct u) (λ t us. refl) s ts e ∙ other
+
+pub sign_ends : (n : ℕ) (s : Punct) (ts : List Token) → binds (tail_kind (kind.Punct s)) < n → next_is s ts ≡ true → Ends n ts
+sign_ends n s ts h e = record { looser = rw (sign_tail s ts e) h; no_literal = sign_literal s ts e }
+
+pub sign_ends_specs : (names : Names) (s : Punct) (ts : List Token) → same_punct p.LeftBrace s ≡ false → next_is s ts ≡ true → EndsSpecs names ts
+sign_ends_specs names s ts other e = record { no_spec = sign_spec names s ts e; no_brace = sign_other p.LeftBrace s ts other e }
+
+pub sign_ends_declarator : (s : Punct) (ts : List Token) → same_punct p.LeftBracket s ≡ false → same_punct p.LeftParen s ≡ false → same_punct p.Star s ≡ false → next_is s ts ≡ true → EndsDeclarator ts
+sign_ends_declarator s ts a b c e = record {
+      no_bracket = sign_other p.LeftBracket s ts a e;
+      no_paren = sign_other p.LeftParen s ts b e;
+      no_star = sign_other p.Star s ts c e;
+      no_name = sign_ident s ts e;
+      no_const = sign_key k.Const s ts e;
+    }
+
+-- a shorter list
+pub skip_shorter : (s : Punct) (ts : List Token) → next_is s ts ≡ true → suc (length (skip ts)) ≡ length ts
+skip_shorter s [] e = absurd cc
+skip_shorter s (t ∷ ts) e = refl
