@@ -1,10 +1,11 @@
 -- A numbered tree without its numbers is the tree.
-use Rattle.std.proofs.Common.{◌≡◌, ℕ, ◌+◌, refl, List, [], ◌∷◌, Option, Some, None}
+use Rattle.std.proofs.Common.{◌≡◌, ◌∙◌, ap, ℕ, ◌+◌, refl, List, [], ◌∷◌, Option, Some, None}
 use Rattle.cc_tree.specs.declared.place.Spot.{Spot}
 use Rattle.cc_syntax.specs.Trees.{ExprTree, name, integer, character, string, paren, unary, binary, assign, step, choice, comma, call, member, arrow, index, cast, size_expr, size_type, ExprTrees, no_exprs, more_exprs, ExprOption, no_expr, an_expr, TypeTree, type_name, TypeTrees, no_types, more_types, SpecTree, word, named, struct, enum, SpecTrees, no_specs, more_specs, MemberTree, members, MemberTrees, no_members, more_members, ConstantTree, constant, ConstantTrees, no_constants, more_constants, DeclTree, declared, nameless, pointer, array, function, grouped, DeclTrees, no_declarators, more_declarators}
 use Rattle.cc_syntax.specs.Trees.{ValueTree, single, braces, ValueTrees, no_values, more_values, InitTree, init, DeclarationTree, declaration, StartTree, start_declaration, start_expr, no_start, StmtTree, compound, plain, empty, if_then, if_else, switch, while_loop, do_loop, for_loop, break, continue, return, BlockTree, block, ItemTree, declares, case_label, default_label, does, ItemTrees, no_items, more_items, ExternalTree, outer_declaration, definition}
 use Rattle.cc_syntax.specs.Views.{gathered, gathered_types, gathered_specs, gathered_members, gathered_constants, gathered_declarators, gathered_values, gathered_items}
 use Rattle.cc_syntax.specs.Renoted.{renoted_expr, renoted_option, renoted_type, renoted_spec, renoted_member, renoted_constant, renoted_declarator, renoted_value, renoted_given, renoted_init, renoted_declaration, renoted_start, renoted_clause, renoted_stmt, renoted_block, renoted_item, renoted_external, renoted_exprs, renoted_types, renoted_specs, renoted_members, renoted_constants, renoted_declarators, renoted_values, renoted_items, renoted_inits, renoted_file}
+use Rattle.cc_syntax_notes.specs.declared.note.Counted.{Counted}
 use Rattle.cc_syntax_notes.specs.Numbering.{spot_of, numbered_expr, numbered_option, numbered_type, numbered_spec, numbered_member, numbered_constant, numbered_declarator, numbered_value, numbered_given, numbered_init, numbered_declaration, numbered_start, numbered_clause, numbered_stmt, numbered_block, numbered_item, numbered_external, numbered_exprs, numbered_types, numbered_specs, numbered_members, numbered_constants, numbered_declarators, numbered_values, numbered_items, numbered_inits, numbered_file}
 
 mutual
@@ -146,3 +147,7 @@ keeps_external (definition s a b c) k = rw (keeps_specs a (k + 1), keeps_declara
 pub keeps_file : (t : List (ExternalTree Spot)) (k : ℕ) → renoted_file spot_of (numbered_file t k).0 ≡ t
 keeps_file [] k = refl
 keeps_file (x ∷ xs) k = rw (keeps_external x k, keeps_file xs (numbered_external x k).1)
+
+-- what numbering gives, without its numbers
+pub kept_file : (t : List (ExternalTree Spot)) (k k' : ℕ) (r : List (ExternalTree Counted)) → (r, k') ≡ numbered_file t k → renoted_file spot_of r ≡ t
+kept_file t k k' r h = ap (λ (p : List (ExternalTree Counted) × ℕ). renoted_file spot_of p.0) h ∙ keeps_file t k

@@ -147,9 +147,8 @@ fn number_option(
     }
 }
 
-/// The same for a type name.
 #[cycle(number)]
-pub fn number_type(
+fn number_type(
     alloc: Global,
     t: &TypeName<Spot>,
     next: &mut u32,
@@ -214,9 +213,8 @@ fn number_spec(
     }
 }
 
-/// The same for specifiers.
 #[cycle(number)]
-pub fn number_specs(
+pub(crate) fn number_specs(
     alloc: Global,
     ss: &[Spec<Spot>],
     next: &mut u32,
@@ -301,9 +299,8 @@ fn number_constants(
     Ok(numbered)
 }
 
-/// The same for a declarator.
 #[cycle(number)]
-pub fn number_declarator(
+pub(crate) fn number_declarator(
     alloc: Global,
     d: &Declarator<Spot>,
     next: &mut u32,

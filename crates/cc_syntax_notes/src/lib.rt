@@ -1,11 +1,16 @@
-//! Passes over syntax trees that put another note into each node, and leave the shape as it is.
+//! A pass that numbers the nodes of a syntax tree as it is written.
 //!
-//! [`number_expr`] and what stands beside it number the nodes of a tree as it is written, a node before its parts and its
-//! parts from left to right: each note is then a [`Counted`].
+//! [`number_file`] and [`number_expr`] make a tree of the same shape with a [`Counted`] in each node: its spot, and its
+//! number. A node comes before its parts, and its parts come from left to right. The numbers of a file begin where the
+//! caller says, so that one count can go over many files.
 #![tactic(auto)]
 
+mod declaration;
 mod expr;
+mod file;
 mod note;
+mod stmt;
 
-pub use expr::{number_declarator, number_expr, number_specs, number_type};
+pub use expr::number_expr;
+pub use file::number_file;
 pub use note::Counted;
