@@ -37,3 +37,26 @@ fn copied_bytes(alloc: Global, bytes: &Bytes) -> Result<Bytes, Memory>
 {
     Ok(Bytes::new(Vec::from_slice(alloc, bytes.bytes())?))
 }
+
+#[cfg(test)]
+mod tests {
+    use super::*;
+    use std::test::Fail;
+
+    #[test]
+    fn copies(rt: HostRuntime) -> Result<(), Fail> {
+        let alloc = rt.alloc();
+        let text = Text::new(String::from_str(alloc, "valve_1")?);
+        assert_eq!(rt; copied_text(alloc, &text)?.as_str(), "valve_1");
+        let tag = copied_tag(alloc, &Some(text))?;
+        assert!(rt; matches!(&tag, Some(tag) if tag.as_str() == "valve_1"));
+        let mut strings = List::new(alloc);
+        for word in [b"one", b"two"] {
+            strings.push(Bytes::new(word.to_vec(alloc)?))?;
+        }
+        let copy = copied_strings(alloc, &strings)?;
+        assert_eq!(rt; copy.len(), 2);
+        assert_eq!(rt; copy.get(1).bytes(), b"two".as_slice());
+        Ok(())
+    }
+}

@@ -46,7 +46,11 @@ pub fn function<N: Drop>(
 }
 
 /// `(declarator)` (C17 6.7.6p6).
-pub fn grouped<N: Drop>(alloc: Global, note: N, declarator: Declarator<N>) -> Result<Declarator<N>, Memory>
+pub fn grouped<N: Drop>(
+    alloc: Global,
+    note: N,
+    declarator: Declarator<N>,
+) -> Result<Declarator<N>, Memory>
     ensures { IfOk result (λ r. view_declarator r ≡ tree.grouped note (view_declarator declarator)) }
 {
     Ok(Declarator::Paren(note, Boxed::new(alloc, declarator)?))

@@ -82,7 +82,12 @@ pub fn choice<N: Drop>(
 }
 
 /// `left, right` (C17 6.5.17).
-pub fn comma<N: Drop>(alloc: Global, note: N, left: Expr<N>, right: Expr<N>) -> Result<Expr<N>, Memory>
+pub fn comma<N: Drop>(
+    alloc: Global,
+    note: N,
+    left: Expr<N>,
+    right: Expr<N>,
+) -> Result<Expr<N>, Memory>
     ensures { IfOk result (λ r. view r ≡ tree.comma note (view left) (view right)) }
 {
     let left = Boxed::new(alloc, left)?;
@@ -117,7 +122,12 @@ pub fn arrow<N: Drop>(alloc: Global, note: N, e: Expr<N>, name: Text) -> Result<
 }
 
 /// `array[at]` (C17 6.5.2.1).
-pub fn index<N: Drop>(alloc: Global, note: N, array: Expr<N>, at: Expr<N>) -> Result<Expr<N>, Memory>
+pub fn index<N: Drop>(
+    alloc: Global,
+    note: N,
+    array: Expr<N>,
+    at: Expr<N>,
+) -> Result<Expr<N>, Memory>
     ensures { IfOk result (λ r. view r ≡ tree.index note (view array) (view at)) }
 {
     let array = Boxed::new(alloc, array)?;

@@ -13,11 +13,13 @@ mod copy;
 mod declarator;
 mod expr;
 mod stmt;
+#[cfg(test)]
+mod tests;
 
 pub use copy::{copied_strings, copied_tag, copied_text};
 pub use declarator::{array, constant, function, grouped, pointer};
 pub use expr::{
-    arrow, assign, binary, call, cast, choice, comma, index, member, paren, size_expr, size_type, step,
-    unary,
+    arrow, assign, binary, call, cast, choice, comma, index, member, paren, size_expr, size_type,
+    step, unary,
 };
 pub use stmt::{do_loop, for_loop, if_else, if_then, while_loop};

@@ -9,7 +9,12 @@ use sqlite_items::Boxed;
 use std::alloc::Global;
 
 /// `if (test) then`, without `else` (C17 6.8.4.1).
-pub fn if_then<N: Drop>(alloc: Global, note: N, test: Expr<N>, then: Stmt<N>) -> Result<Stmt<N>, Memory>
+pub fn if_then<N: Drop>(
+    alloc: Global,
+    note: N,
+    test: Expr<N>,
+    then: Stmt<N>,
+) -> Result<Stmt<N>, Memory>
     ensures { IfOk result (λ r. view_stmt r ≡ tree.if_then note (view test) (view_stmt then)) }
 {
     Ok(Stmt::If(note, test, Boxed::new(alloc, then)?))
@@ -43,7 +48,12 @@ pub fn while_loop<N: Drop>(
 }
 
 /// `do body while (test);` (C17 6.8.5.2).
-pub fn do_loop<N: Drop>(alloc: Global, note: N, body: Stmt<N>, test: Expr<N>) -> Result<Stmt<N>, Memory>
+pub fn do_loop<N: Drop>(
+    alloc: Global,
+    note: N,
+    body: Stmt<N>,
+    test: Expr<N>,
+) -> Result<Stmt<N>, Memory>
     ensures { IfOk result (λ r. view_stmt r ≡ tree.do_loop note (view_stmt body) (view test)) }
 {
     Ok(Stmt::Do(note, Boxed::new(alloc, body)?, test))

@@ -12,11 +12,7 @@ use sqlite_items::Items;
 use std::alloc::Global;
 
 #[cycle(number)]
-fn number_value(
-    alloc: Global,
-    v: &Value<Spot>,
-    next: &mut u32,
-) -> Result<Value<Counted>, Memory>
+fn number_value(alloc: Global, v: &Value<Spot>, next: &mut u32) -> Result<Value<Counted>, Memory>
     requires { next.old + nodes.value_nodes (view_value v.now) < 2 ^ 32 }
     ensures tree { IfOk result (λ r. (view_value r, next.new) ≡ spec.numbered_value (view_value v.now) next.old) }
     ensures next { OnOk result (next.new ≡ next.old + nodes.value_nodes (view_value v.now)) }
@@ -63,11 +59,7 @@ fn number_given(
     }
 }
 
-fn number_init(
-    alloc: Global,
-    i: &Init<Spot>,
-    next: &mut u32,
-) -> Result<Init<Counted>, Memory>
+fn number_init(alloc: Global, i: &Init<Spot>, next: &mut u32) -> Result<Init<Counted>, Memory>
     requires { next.old + nodes.init_nodes (view_init i.now) < 2 ^ 32 }
     ensures tree { IfOk result (λ r. (view_init r, next.new) ≡ spec.numbered_init (view_init i.now) next.old) }
     ensures next { OnOk result (next.new ≡ next.old + nodes.init_nodes (view_init i.now)) }

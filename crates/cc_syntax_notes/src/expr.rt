@@ -13,11 +13,7 @@ use std::alloc::Global;
 
 /// The expression with a number in each node, the first of which is `next`, which is then the number after the last.
 #[cycle(number)]
-pub fn number_expr(
-    alloc: Global,
-    e: &Expr<Spot>,
-    next: &mut u32,
-) -> Result<Expr<Counted>, Memory>
+pub fn number_expr(alloc: Global, e: &Expr<Spot>, next: &mut u32) -> Result<Expr<Counted>, Memory>
     requires { next.old + nodes.expr_nodes (view e.now) < 2 ^ 32 }
     ensures tree { IfOk result (λ r. (view r, next.new) ≡ spec.numbered_expr (view e.now) next.old) }
     ensures next { OnOk result (next.new ≡ next.old + nodes.expr_nodes (view e.now)) }
@@ -185,11 +181,7 @@ fn number_types(
 }
 
 #[cycle(number)]
-fn number_spec(
-    alloc: Global,
-    s: &Spec<Spot>,
-    next: &mut u32,
-) -> Result<Spec<Counted>, Memory>
+fn number_spec(alloc: Global, s: &Spec<Spot>, next: &mut u32) -> Result<Spec<Counted>, Memory>
     requires { next.old + nodes.spec_nodes (view_spec s.now) < 2 ^ 32 }
     ensures tree { IfOk result (λ r. (view_spec r, next.new) ≡ spec.numbered_spec (view_spec s.now) next.old) }
     ensures next { OnOk result (next.new ≡ next.old + nodes.spec_nodes (view_spec s.now)) }
@@ -231,11 +223,7 @@ pub(crate) fn number_specs(
 }
 
 #[cycle(number)]
-fn number_member(
-    alloc: Global,
-    m: &Member<Spot>,
-    next: &mut u32,
-) -> Result<Member<Counted>, Memory>
+fn number_member(alloc: Global, m: &Member<Spot>, next: &mut u32) -> Result<Member<Counted>, Memory>
     requires { next.old + nodes.member_nodes (view_member m.now) < 2 ^ 32 }
     ensures tree { IfOk result (λ r. (view_member r, next.new) ≡ spec.numbered_member (view_member m.now) next.old) }
     ensures next { OnOk result (next.new ≡ next.old + nodes.member_nodes (view_member m.now)) }

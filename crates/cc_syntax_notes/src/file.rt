@@ -16,11 +16,7 @@ use std::alloc::Global;
 
 /// The file with a number in each node, the first of which is `next`, which is then the number after the last. A node comes
 /// before its parts, and its parts come from left to right. Without the numbers it is the file as it was.
-pub fn number_file(
-    alloc: Global,
-    file: &Unit,
-    next: &mut u32,
-) -> Result<FileTree<Counted>, Memory>
+pub fn number_file(alloc: Global, file: &Unit, next: &mut u32) -> Result<FileTree<Counted>, Memory>
     requires { next.old + nodes.file_nodes (view_file file.now) < 2 ^ 32 }
     ensures tree { IfOk result (λ r. (view_file r, next.new) ≡ spec.numbered_file (view_file file.now) next.old) }
     ensures next { OnOk result (next.new ≡ next.old + nodes.file_nodes (view_file file.now)) }

@@ -45,11 +45,7 @@ fn number_clause(
 }
 
 #[cycle(number)]
-fn number_stmt(
-    alloc: Global,
-    s: &Stmt<Spot>,
-    next: &mut u32,
-) -> Result<Stmt<Counted>, Memory>
+fn number_stmt(alloc: Global, s: &Stmt<Spot>, next: &mut u32) -> Result<Stmt<Counted>, Memory>
     requires { next.old + nodes.stmt_nodes (view_stmt s.now) < 2 ^ 32 }
     ensures tree { IfOk result (λ r. (view_stmt r, next.new) ≡ spec.numbered_stmt (view_stmt s.now) next.old) }
     ensures next { OnOk result (next.new ≡ next.old + nodes.stmt_nodes (view_stmt s.now)) }
@@ -125,11 +121,7 @@ pub(crate) fn number_block(
 }
 
 #[cycle(number)]
-fn number_item(
-    alloc: Global,
-    i: &Item<Spot>,
-    next: &mut u32,
-) -> Result<Item<Counted>, Memory>
+fn number_item(alloc: Global, i: &Item<Spot>, next: &mut u32) -> Result<Item<Counted>, Memory>
     requires { next.old + nodes.item_nodes (view_item i.now) < 2 ^ 32 }
     ensures tree { IfOk result (λ r. (view_item r, next.new) ≡ spec.numbered_item (view_item i.now) next.old) }
     ensures next { OnOk result (next.new ≡ next.old + nodes.item_nodes (view_item i.now)) }

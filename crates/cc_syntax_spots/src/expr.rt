@@ -73,8 +73,16 @@ pub fn spots_of_expr(alloc: Global, e: &Expr<Typed>) -> Result<Expr<Spot>, Memor
             let e = spots_of_expr(alloc, e.get())?;
             make::cast(alloc, note.spot, to, e)
         }
-        Expr::SizeExpr(note, e) => make::size_expr(alloc, note.spot, spots_of_expr(alloc, e.get())?),
-        Expr::SizeType(note, of) => make::size_type(alloc, note.spot, spots_of_type(alloc, of.get())?),
+        Expr::SizeExpr(note, e) => make::size_expr(
+            alloc,
+            note.spot,
+            spots_of_expr(alloc, e.get())?,
+        ),
+        Expr::SizeType(note, of) => make::size_type(
+            alloc,
+            note.spot,
+            spots_of_type(alloc, of.get())?,
+        ),
     }
 }
 
@@ -139,7 +147,12 @@ fn spots_of_spec(alloc: Global, s: &Spec<Typed>) -> Result<Spec<Spot>, Memory>
         }
         Spec::Enum(note, tag, constants, trailing) => {
             let constants = spots_of_constants(alloc, constants.as_slice())?;
-            Ok(Spec::Enum(note.spot, make::copied_tag(alloc, tag)?, constants, *trailing))
+            Ok(Spec::Enum(
+                note.spot,
+                make::copied_tag(alloc, tag)?,
+                constants,
+                *trailing,
+            ))
         }
     }
 }
@@ -184,7 +197,12 @@ fn spots_of_constant(alloc: Global, c: &Constant<Typed>) -> Result<Constant<Spot
     ensures { IfOk result (λ r. view_constant r ≡ renoted_constant spot_of (view_constant c.now)) }
 {
     let value = spots_of_option(alloc, &c.value)?;
-    make::constant(alloc, c.note.spot, make::copied_text(alloc, &c.name)?, value)
+    make::constant(
+        alloc,
+        c.note.spot,
+        make::copied_text(alloc, &c.name)?,
+        value,
+    )
 }
 
 #[cycle(spots)]
@@ -209,7 +227,10 @@ pub(crate) fn spots_of_declarator(
     ensures { IfOk result (λ r. view_declarator r ≡ renoted_declarator spot_of (view_declarator d.now)) }
 {
     match d {
-        Declarator::Name(note, name) => Ok(Declarator::Name(note.spot, make::copied_text(alloc, name)?)),
+        Declarator::Name(note, name) => Ok(Declarator::Name(
+            note.spot,
+            make::copied_text(alloc, name)?,
+        )),
         Declarator::Nameless => Ok(Declarator::Nameless),
         Declarator::Pointer(note, consts, d) => {
             let d = spots_of_declarator(alloc, d.get())?;
@@ -225,7 +246,11 @@ pub(crate) fn spots_of_declarator(
             let parameters = spots_of_types(alloc, parameters.as_slice())?;
             make::function(alloc, note.spot, d, parameters)
         }
-        Declarator::Paren(note, d) => make::grouped(alloc, note.spot, spots_of_declarator(alloc, d.get())?),
+        Declarator::Paren(note, d) => make::grouped(
+            alloc,
+            note.spot,
+            spots_of_declarator(alloc, d.get())?,
+        ),
     }
 }
 

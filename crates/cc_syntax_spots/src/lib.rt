@@ -7,6 +7,8 @@ mod declaration;
 mod expr;
 mod file;
 mod stmt;
+#[cfg(test)]
+mod tests;
 
 pub use expr::spots_of_expr;
 pub use file::spots_of_file;
