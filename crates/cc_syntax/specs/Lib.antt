@@ -1,3 +1,5 @@
 pub mod Trees
 pub mod Views
 pub mod Depth
+pub mod Nodes
+pub mod Renoted
