@@ -1,0 +1,13 @@
+//! Expressions, type names, specifiers and declarators, as they are read from tokens.
+//!
+//! Each rule of the grammar is a method of [`grammar::Grammar`], which has the readers of what stands inside as values, so
+//! that each is proved by itself. [`expr`], [`specs`] and [`declarator`] tie them together. Each gives exactly what the
+//! reader of the same name in `cc_grammar`'s definitions of reading gives.
+#![tactic(auto)]
+
+mod grammar;
+mod mode;
+mod readers;
+
+pub use mode::Mode;
+pub use readers::{declarator, expr, specs};
