@@ -1,1 +1,3 @@
+pub mod ByTurns
 pub mod NameLists
+pub mod Turns
