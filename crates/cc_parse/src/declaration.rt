@@ -1,0 +1,77 @@
+// Declarations (C17 6.7).
+ghost use Rattle.std.specs.Prelude.{◌≡◌, map, option_map, OnOk};
+ghost use Rattle.cc_grammar.specs.Reading as spec;
+ghost use Rattle.cc_grammar.specs.Names as typedefs;
+ghost use Rattle.cc_syntax.specs.Views.{view_value, view_init, view_declarator, view_declaration, specs_of};
+ghost use Rattle.cc_parse_tokens.specs.Gives.{Gives};
+
+use crate::initialiser::value;
+use cc_lex::Punct;
+use cc_parse_expr::{Mode, declarator, specs};
+use cc_parse_tokens::{Cursor, Fault, TypedefNames};
+use cc_syntax::{Declaration, Declarator, Init, Spec, SpecWord, Value};
+use cc_tree::{Memory, Spot, Text};
+use sqlite_items::Items;
+use std::alloc::Global;
+
+/// `=` and an initialiser, or nothing.
+pub fn given(
+    alloc: Global,
+    tokens: &mut Cursor<'_>,
+    names: &TypedefNames,
+    depth: u32,
+) -> Result<Option<Value<Spot>>, Fault>
+    ensures { Gives (option_map view_value) (spec.given names.now depth tokens.old) result tokens.new }
+{
+    if tokens.next_is(Punct::Equal) {
+        tokens.skip();
+        let value = value(alloc, tokens, names, depth)?;
+        Ok(Some(value))
+    } else {
+        Ok(None)
+    }
+}
+
+/// Whether the specifiers have `typedef`.
+pub fn has_typedef(specs: &[Spec<Spot>]) -> bool
+    ensures { result ≡ typedefs.has_typedef (specs_of specs.now) }
+{
+    for spec in specs {
+        if let Spec::Word(_, SpecWord::Typedef) = spec {
+            return true;
+        }
+    }
+    false
+}
+
+/// Takes the declared name down where the declaration has `typedef`.
+pub fn declare(
+    alloc: Global,
+    names: &mut TypedefNames,
+    typedef: bool,
+    declarator: &Declarator<Spot>,
+) -> Result<(), Memory>
+    ensures ok { OnOk result (names.new ≡ typedefs.after_declarator typedef (view_declarator declarator.now) names.old) }
+{
+    if typedef {
+        add_declared(alloc, names, declarator)?;
+    }
+    Ok(())
+}
+
+fn add_declared(
+    alloc: Global,
+    names: &mut TypedefNames,
+    declarator: &Declarator<Spot>,
+) -> Result<(), Memory>
+    ensures { OnOk result (names.new ≡ typedefs.with_declared (view_declarator declarator.now) names.old) }
+{
+    match declarator {
+        Declarator::Name(_, name) => names.add(alloc, name.as_str()),
+        Declarator::Nameless => Ok(()),
+        Declarator::Pointer(_, _, inner) => add_declared(alloc, names, inner.get()),
+        Declarator::Array(_, inner, _) => add_declared(alloc, names, inner.get()),
+        Declarator::Func(_, inner, _) => add_declared(alloc, names, inner.get()),
+        Declarator::Paren(_, inner) => add_declared(alloc, names, inner.get()),
+    }
+}
