@@ -1,5 +1,5 @@
 // Declarations (C17 6.7).
-ghost use Rattle.std.specs.Prelude.{◌≡◌, map, option_map, OnOk};
+ghost use Rattle.std.specs.Prelude.{◌≡◌, map, option_map, IfOk, OnOk};
 ghost use Rattle.cc_grammar.specs.Reading as spec;
 ghost use Rattle.cc_grammar.specs.Names as typedefs;
 ghost use Rattle.cc_syntax.specs.Views.{view_value, view_init, view_declarator, view_declaration, specs_of};
@@ -74,4 +74,31 @@ fn add_declared(
         Declarator::Func(_, inner, _) => add_declared(alloc, names, inner.get()),
         Declarator::Paren(_, inner) => add_declared(alloc, names, inner.get()),
     }
+}
+
+/// The declarators of a declaration with their initialisers, where the first one was read already.
+pub fn inits(
+    alloc: Global,
+    tokens: &mut Cursor<'_>,
+    names: &mut TypedefNames,
+    depth: u32,
+    typedef: bool,
+    first: Declarator<Spot>,
+) -> Result<Items<Init<Spot>>, Fault>
+    ensures gives { Gives (map view_init) (spec.inits depth typedef names.old (view_declarator first) tokens.old) result tokens.new }
+    ensures after { IfOk result (λ is. names.new ≡ typedefs.after_inits typedef (map view_init is) names.old) }
+{
+    let mut found = Items::new(alloc);
+    let mut next = first;
+    for _turn in 0..tokens.len() + 1 {
+        declare(alloc, names, typedef, &next)?;
+        let value = given(alloc, tokens, names, depth)?;
+        found.push(Init { declarator: next, value })?;
+        if !tokens.next_is(Punct::Comma) {
+            return Ok(found);
+        }
+        tokens.skip();
+        next = declarator(alloc, tokens, names, depth, Mode::Named)?;
+    }
+    Err(Fault::Refused)
 }

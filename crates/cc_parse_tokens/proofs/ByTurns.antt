@@ -17,11 +17,11 @@ abbrev pub before_marked : {A : Type 0} → List A → Outcome (List A × Bool) 
 before_marked found (Ok x) = Ok ((found ++ x.0.0, x.0.1), x.1)
 before_marked found (Err r) = Err r
 
-one_more : {A : Type 0} (found : List A) (x : A) (o : Outcome (List A)) → before (found ++ x ∷ []) o ≡ before found (and_then o (λ xs r. Ok (x ∷ xs, r)))
+pub one_more : {A : Type 0} (found : List A) (x : A) (o : Outcome (List A)) → before (found ++ x ∷ []) o ≡ before found (and_then o (λ xs r. Ok (x ∷ xs, r)))
 one_more found x (Ok y) = ap (λ zs. Ok (zs, y.1)) (append_assoc found (x ∷ []) y.0)
 one_more found x (Err r) = refl
 
-one_more_marked : {A : Type 0} (found : List A) (x : A) (o : Outcome (List A × Bool)) → before_marked (found ++ x ∷ []) o ≡ before_marked found (and_then o (λ xs r. Ok ((x ∷ xs.0, xs.1), r)))
+pub one_more_marked : {A : Type 0} (found : List A) (x : A) (o : Outcome (List A × Bool)) → before_marked (found ++ x ∷ []) o ≡ before_marked found (and_then o (λ xs r. Ok ((x ∷ xs.0, xs.1), r)))
 one_more_marked found x (Ok y) = ap (λ zs. Ok ((zs, y.0.1), y.1)) (append_assoc found (x ∷ []) y.0.0)
 one_more_marked found x (Err r) = refl
 

@@ -1,5 +1,5 @@
 // The tokens that are left.
-ghost use Rattle.std.specs.Prelude.{◌≡◌, length, option_map};
+ghost use Rattle.std.specs.Prelude.{◌≡◌, ◌<◌, ◌^◌, length, option_map};
 ghost use Rattle.cc_grammar.specs.Classes as grammar;
 ghost use Rattle.cc_grammar.specs.Outcomes as spec;
 ghost use Rattle.cc_parse_tokens.specs.Classes.{class_of_start, class_of_spec, tail_of, stmt_of, integer_of, character_of};
@@ -44,7 +44,8 @@ impl<'a> Cursor<'a> {
 
     /// How many tokens are left.
     pub fn len(&self) -> usize
-        ensures { result ≡ length self.now }
+        ensures value { result ≡ length self.now }
+        ensures small { result < 2 ^ 63 }
     {
         self.rest.len()
     }
