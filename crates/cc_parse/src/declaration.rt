@@ -4,6 +4,7 @@ ghost use Rattle.cc_grammar.specs.Reading as spec;
 ghost use Rattle.cc_grammar.specs.Names as typedefs;
 ghost use Rattle.cc_syntax.specs.Views.{view_value, view_init, view_declarator, view_declaration, specs_of};
 ghost use Rattle.cc_parse_tokens.specs.Gives.{Gives};
+ghost use Rattle.cc_parse.specs.Parts as parts;
 
 use crate::initialiser::value;
 use cc_lex::Punct;
@@ -101,4 +102,41 @@ pub fn inits(
         next = declarator(alloc, tokens, names, depth, Mode::Named)?;
     }
     Err(Fault::Refused)
+}
+
+/// A declaration with its semicolon.
+pub fn declaration(
+    alloc: Global,
+    tokens: &mut Cursor<'_>,
+    names: &mut TypedefNames,
+    depth: u32,
+) -> Result<Declaration<Spot>, Fault>
+    ensures gives { Gives view_declaration (spec.declaration_at depth names.old tokens.old) result tokens.new }
+    ensures after { IfOk result (λ d. names.new ≡ typedefs.after_declaration (view_declaration d) names.old) }
+{
+    let spot = tokens.spot();
+    let specs = specs(alloc, tokens, names, depth)?;
+    if tokens.next_is(Punct::Semicolon) {
+        tokens.skip();
+        return Ok(Declaration { note: spot, specs, inits: Items::new(alloc) });
+    }
+    declared(alloc, tokens, names, depth, spot, specs)
+}
+
+fn declared(
+    alloc: Global,
+    tokens: &mut Cursor<'_>,
+    names: &mut TypedefNames,
+    depth: u32,
+    spot: Spot,
+    specs: Items<Spec<Spot>>,
+) -> Result<Declaration<Spot>, Fault>
+    ensures gives { Gives view_declaration (parts.declared depth names.old spot (specs_of specs) tokens.old) result tokens.new }
+    ensures after { IfOk result (λ d. names.new ≡ typedefs.after_declaration (view_declaration d) names.old) }
+{
+    let first = declarator(alloc, tokens, names, depth, Mode::Named)?;
+    let typedef = has_typedef(specs.as_slice());
+    let inits = inits(alloc, tokens, names, depth, typedef, first)?;
+    tokens.take(Punct::Semicolon)?;
+    Ok(Declaration { note: spot, specs, inits })
 }
