@@ -5,6 +5,5 @@
 
 mod declaration;
 mod initialiser;
+mod statement;
 
-pub use declaration::{declare, given, has_typedef};
-pub use initialiser::value;
