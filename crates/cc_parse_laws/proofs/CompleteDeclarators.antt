@@ -92,14 +92,14 @@ pub record Suffixed (names : Names) (r : List Token) : Type 0 where
   pub no_name : next_ident r ≡ None
   pub paren : next_is p.LeftParen r ≡ true → (next_is p.RightParen (skip r) || starts_spec names (skip r)) ≡ true
 
-or_left : (a b : Bool) → a ≡ true → (a || b) ≡ true
+pub or_left : (a b : Bool) → a ≡ true → (a || b) ≡ true
 or_left a b e = rw e refl
 
 or_right : (a b : Bool) → b ≡ true → (a || b) ≡ true
 or_right true b e = refl
 or_right false b e = e
 
-neither : (a b : Bool) → a ≡ false → b ≡ false → (a || b) ≡ false
+pub neither : (a b : Bool) → a ≡ false → b ≡ false → (a || b) ≡ false
 neither a b e f = rw (e, f) refl
 
 -- no direct declarator begins with a star

@@ -2,6 +2,7 @@ pub mod Climbs
 pub mod CompleteDeclarators
 pub mod CompleteExpressions
 pub mod CompletePrefixes
+pub mod CompleteSpecifiers
 pub mod CompleteTypes
 pub mod Depths
 pub mod Edges
