@@ -178,7 +178,7 @@ takes_declared with_name n x h = refl
 takes_declared without_name n x h = absurd cc
 takes_declared with_or_without n x h = refl
 
-wants_none : (mode : Mode) → Suits mode nameless → wants_name mode ≡ false
+pub wants_none : (mode : Mode) → Suits mode nameless → wants_name mode ≡ false
 wants_none with_name h = absurd cc
 wants_none without_name h = refl
 wants_none with_or_without h = refl

@@ -1,7 +1,9 @@
 pub mod Climbs
 pub mod CompleteDeclarators
 pub mod CompleteExpressions
+pub mod CompleteMembers
 pub mod CompletePrefixes
+pub mod CompleteReaders
 pub mod CompleteSpecifiers
 pub mod CompleteTypes
 pub mod Depths
