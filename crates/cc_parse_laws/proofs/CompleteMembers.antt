@@ -1,21 +1,20 @@
 -- Lists of members and of enumeration constants are read back.
-use Rattle.std.proofs.Common.{◌≡◌, ◌≤◌, ◌<◌, ◌+◌, refl, ℕ, zero, suc, Bool, true, false, List, [], ◌∷◌, length, Option, Some, None, Result, Ok, Err, arith, sym, ap, ◌∙◌, subst}
-use Rattle.std.specs.Prelude.{◌==◌, if◌then◌else◌}
+use Rattle.std.proofs.Common.{◌≡◌, refl, ℕ, suc, true, false, List, ◌∷◌, Some, None, Ok, arith, ap, ◌∙◌, subst}
+use Rattle.std.specs.Prelude.{◌==◌}
 use Rattle.cc_tree.specs.declared.place.Spot.{Spot}
 use Rattle.cc_lex.specs.declared.token.Token.{Token}
-use Rattle.cc_lex.specs.declared.token.TokenKind.{TokenKind}
 use Rattle.cc_lex.specs.declared.token.TokenKind.TheVariants as kind
 use Rattle.cc_lex.specs.declared.punct.Punct.TheVariants as p
-use Rattle.cc_syntax.specs.Trees.{Name, ExprOption, no_expr, an_expr, SpecTrees, MemberTree, members, MemberTrees, no_members, more_members, ConstantTree, constant, ConstantTrees, no_constants, more_constants, DeclTree, DeclTrees, no_declarators, more_declarators}
+use Rattle.cc_syntax.specs.Trees.{ExprOption, no_expr, an_expr, MemberTree, members, more_members, ConstantTree, constant, DeclTree, no_declarators, more_declarators}
 use Rattle.cc_syntax.specs.Views.{gathered_declarators}
 use Rattle.cc_grammar.specs.Names.{Names, is_type}
-use Rattle.cc_grammar.specs.Outline.{Outline, end, token, part, Stands}
+use Rattle.cc_grammar.specs.Outline.{end}
 use Rattle.cc_grammar.specs.Outlines as o
-use Rattle.cc_grammar.specs.Classes.{next_is, is_punct, skip, spot, starts_spec}
-use Rattle.cc_grammar.specs.Outcomes.{Outcome, Parser, and_then, pure, refuse, take, ◌>>=◌, ◌>>◌, ◌<$>◌}
-use Rattle.cc_grammar.specs.Reading.{Inner, Mode, with_name, member_line, member_list, goes_on_members, constant_value, one_constant, constant_list, id, opposite, separated, repeated, enclosed, skipping}
-use Rattle.cc_parse_laws.proofs.Spans.{Inside, Reads}
-use Rattle.cc_parse_laws.proofs.Steps.{next_token, reads_next, reads_take, branch_true, branch_false}
+use Rattle.cc_grammar.specs.Classes.{next_is, is_punct, skip, spot}
+use Rattle.cc_grammar.specs.Outcomes.{Parser, and_then, pure, refuse, take, ◌>>=◌, ◌>>◌, ◌<$>◌}
+use Rattle.cc_grammar.specs.Reading.{Inner, with_name, member_line, constant_value, one_constant, id, opposite, separated, repeated, enclosed, skipping}
+use Rattle.cc_parse_laws.proofs.Spans.{Reads}
+use Rattle.cc_parse_laws.proofs.Steps.{next_token, reads_next, branch_true, branch_false}
 use Rattle.cc_parse_laws.proofs.Lists.{Again, takes, separated_again, repeated_again, enclosed_again}
 use Rattle.cc_parse_laws.proofs.Depths.{named_is_written}
 use Rattle.cc_parse_laws.proofs.Peeks.{after, inside, at_token, sign_other, sign_ends, sign_ends_declarator}

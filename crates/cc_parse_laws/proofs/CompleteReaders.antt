@@ -1,12 +1,11 @@
 -- Expressions, specifiers and declarators of each depth are read back.
-use Rattle.std.proofs.Common.{◌≡◌, ◌≤◌, refl, ℕ, zero, suc, Bool, true, false, List, [], ◌∷◌, Result, Ok, Err, ap, ◌∙◌}
-use Rattle.std.specs.Prelude.{◌==◌}
+use Rattle.std.proofs.Common.{◌≡◌, ℕ, zero, suc, List, Ok, ◌∙◌}
 use Rattle.cc_tree.specs.declared.place.Spot.{Spot}
 use Rattle.cc_lex.specs.declared.token.Token.{Token}
-use Rattle.cc_syntax.specs.Trees.{ExprTree, DeclTree, declared, nameless, pointer, array, function, grouped}
+use Rattle.cc_syntax.specs.Trees.{DeclTree, declared, nameless, pointer, array, function, grouped}
 use Rattle.cc_grammar.specs.Names.{Names}
 use Rattle.cc_grammar.specs.Outcomes.{pure, refuse}
-use Rattle.cc_grammar.specs.Reading.{Inner, no_inner, opened, readers, declarator, Mode, with_name, without_name, with_or_without, wants_name}
+use Rattle.cc_grammar.specs.Reading.{Inner, no_inner, opened, readers, declarator, Mode, wants_name}
 use Rattle.cc_parse_laws.proofs.Steps.{branch_false}
 use Rattle.cc_parse_laws.proofs.Climbs.{rest_is}
 use Rattle.cc_parse_laws.proofs.CompleteExpressions.{expression_again}
@@ -17,10 +16,10 @@ use Rattle.cc_parse_laws.proofs.Inner.{Suits, ReadsDeclarator, EndsDeclarator, C
 
 opened_complete : (names : Names) (inner : Inner) (d : ℕ) → CompleteInner names inner d → CompleteInner names (opened names inner (suc d)) (suc d)
 opened_complete names inner d good = record {
-      expr = expression_again names inner d good;
-      specs = specs_again names inner (suc d) (members_again names inner d good) (constants_again names inner d good);
-      declarator = declarator_again names inner d good;
-    }
+  expr = expression_again names inner d good;
+  specs = specs_again names inner (suc d) (members_again names inner d good) (constants_again names inner d good);
+  declarator = declarator_again names inner d good;
+}
 
 -- where nothing may be written, nothing is
 nothing_again : (names : Names) (mode : Mode) (f : DeclTree Spot) (ts r : List Token) → Suits mode f → ReadsDeclarator names 0 f ts r → EndsDeclarator r → declarator names no_inner 0 mode ts ≡ Ok (f, r)
@@ -33,10 +32,10 @@ nothing_again names mode (grouped n f) ts r suits y ends = absurd y
 
 flat_complete : (names : Names) → CompleteInner names (opened names no_inner 0) 0
 flat_complete names = record {
-      expr = λ least e ts r l y ends. absurd y;
-      specs = specs_again names no_inner 0 (λ m ms ts r y. absurd y.2) (λ c cs trailing ts r y. absurd y.2);
-      declarator = nothing_again names;
-    }
+  expr = λ least e ts r l y ends. absurd y;
+  specs = specs_again names no_inner 0 (λ m ms ts r y. absurd y.2) (λ c cs trailing ts r y. absurd y.2);
+  declarator = nothing_again names;
+}
 
 pub readers_complete : (names : Names) (d : ℕ) → CompleteInner names (readers names d) d
 readers_complete names zero = flat_complete names

@@ -1,11 +1,10 @@
 -- Specifiers are read back, before a token that could not go on with them, where the lists in braces in them are.
-use Rattle.std.proofs.Common.{◌≡◌, ◌≤◌, ◌<◌, ◌+◌, refl, ℕ, zero, suc, Bool, true, false, List, [], ◌∷◌, length, Option, Some, None, Result, Ok, Err, arith, sym, ap, ◌∙◌, subst}
-use Rattle.std.specs.Prelude.{◌||◌, ◌==◌, if◌then◌else◌}
+use Rattle.std.proofs.Common.{◌≡◌, refl, ℕ, Bool, true, false, List, ◌∷◌, Option, Some, None, Ok, sym, ap, ◌∙◌, subst}
+use Rattle.std.specs.Prelude.{◌||◌}
 use Rattle.cc_tree.specs.declared.place.Spot.{Spot}
 use Rattle.cc_lex.specs.declared.token.Token.{Token}
 use Rattle.cc_lex.specs.declared.token.TokenKind.{TokenKind}
 use Rattle.cc_lex.specs.declared.token.TokenKind.TheVariants as kind
-use Rattle.cc_lex.specs.declared.keyword.Keyword.{Keyword}
 use Rattle.cc_lex.specs.declared.keyword.Keyword.TheVariants as k
 use Rattle.cc_lex.specs.declared.punct.Punct.TheVariants as p
 use Rattle.cc_syntax.specs.declared.operator.SpecWord.{SpecWord}
@@ -14,18 +13,17 @@ use Rattle.cc_syntax.specs.Trees.{Name, SpecTree, word, named, struct, enum, Spe
 use Rattle.cc_syntax.specs.Views.{gathered_specs, gathered_members, gathered_constants}
 use Rattle.cc_grammar.specs.Levels.{spec_keyword}
 use Rattle.cc_grammar.specs.Names.{Names, is_type}
-use Rattle.cc_grammar.specs.Outline.{Outline, end, token, part, Stands}
+use Rattle.cc_grammar.specs.Outline.{Outline, end, token}
 use Rattle.cc_grammar.specs.Outlines as o
-use Rattle.cc_grammar.specs.Classes.{next_is, skip, spot, next_ident, ident, spec_start, spec_kind, spec_key, SpecStart, spec_word, spec_struct, spec_enum, spec_named, no_spec, starts_spec}
-use Rattle.cc_grammar.specs.Outcomes.{Outcome, Parser, and_then, pure, refuse, ◌<$>◌}
+use Rattle.cc_grammar.specs.Classes.{next_is, skip, spot, next_ident, ident, spec_start, spec_kind, spec_key, SpecStart, spec_word, spec_struct, spec_enum, spec_named, starts_spec}
+use Rattle.cc_grammar.specs.Outcomes.{Parser, and_then, pure, ◌<$>◌}
 use Rattle.cc_grammar.specs.Reading.{Inner, specs, spec_by, tag, tag_by, untagged, member_list, constant_list, where_next, repeated}
-use Rattle.cc_parse_laws.proofs.Spans.{Inside, Reads}
+use Rattle.cc_parse_laws.proofs.Spans.{Reads}
 use Rattle.cc_parse_laws.proofs.Steps.{next_token, reads_next, branch_true, branch_false}
 use Rattle.cc_parse_laws.proofs.Lists.{Again, repeated_again}
 use Rattle.cc_parse_laws.proofs.Peeks.{after, inside, at_token, sign_ident}
-use Rattle.cc_parse_laws.proofs.Firsts.{inside_sinks, spec_not}
+use Rattle.cc_parse_laws.proofs.Firsts.{or_left, neither, inside_sinks, spec_not}
 use Rattle.cc_parse_laws.proofs.Climbs.{bound, mapped, done, rest_is}
-use Rattle.cc_parse_laws.proofs.CompleteDeclarators.{or_left, neither}
 use Rattle.cc_parse_laws.proofs.Listed as listed
 use Rattle.cc_parse_laws.proofs.Inner.{EndsSpecs}
 

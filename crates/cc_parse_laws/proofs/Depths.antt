@@ -1,14 +1,12 @@
 -- The depth of a tree by its own definition is that of its outline, with itself where it counts.
-use Rattle.std.proofs.Common.{◌≡◌, ◌≤◌, ◌+◌, refl, ℕ, zero, suc, max, Bool, true, false, List, [], ◌∷◌, Option, Some, None, arith, sym, ap, ◌∙◌}
+use Rattle.std.proofs.Common.{◌≡◌, ◌+◌, refl, ℕ, zero, suc, max, Bool, true, false, List, [], ◌∷◌, Option, Some, None, arith, ◌∙◌}
 use Rattle.cc_tree.specs.declared.place.Spot.{Spot}
-use Rattle.cc_lex.specs.declared.punct.Punct.TheVariants as p
 use Rattle.cc_syntax.specs.declared.operator.Side.TheVariants as side
 use Rattle.cc_syntax.specs.Trees.{Name, ExprTree, name, integer, character, string, paren, unary, binary, assign, step, choice, comma, call, member, arrow, index, cast, size_expr, size_type, ExprTrees, no_exprs, more_exprs, ExprOption, no_expr, an_expr, TypeTree, type_name, TypeTrees, no_types, more_types, SpecTree, word, named, struct, enum, SpecTrees, no_specs, more_specs, MemberTree, members, MemberTrees, no_members, more_members, ConstantTree, constant, ConstantTrees, no_constants, more_constants, DeclTree, declared, nameless, pointer, array, function, grouped, DeclTrees, no_declarators, more_declarators}
-use Rattle.cc_syntax.specs.Trees.{ValueTree, single, braces, ValueTrees, no_values, more_values, InitTree, init, DeclarationTree, declaration, StartTree, start_declaration, start_expr, no_start, StmtTree, compound, plain, empty, if_then, if_else, switch, while_loop, do_loop, for_loop, break, continue, return, BlockTree, block, ItemTree, declares, case_label, default_label, does, ItemTrees, no_items, more_items, ExternalTree, outer_declaration, definition}
 use Rattle.cc_syntax.specs.Depth as d
-use Rattle.cc_grammar.specs.Outline.{Outline, depth, deeper}
+use Rattle.cc_grammar.specs.Outline.{depth, deeper}
 use Rattle.cc_grammar.specs.Outlines as o
-use Rattle.cc_grammar.specs.Names.{Names, has_typedef, after_declarator, after_inits, after_start, after_stmt, after_item, after_external}
+use Rattle.cc_grammar.specs.Names.{Names}
 
 flat_strings : (ss : List (List ℕ)) → depth (o.strings ss) ≡ 0
 flat_strings [] = refl

@@ -10,6 +10,7 @@ pub mod Depths
 pub mod Edges
 pub mod FirstDeclarators
 pub mod Firsts
+pub mod Grows
 pub mod Inner
 pub mod Listed
 pub mod Lists
