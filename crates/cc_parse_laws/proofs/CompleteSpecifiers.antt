@@ -69,8 +69,8 @@ module _ (names : Names) (inner : Inner) (d : ℕ) where
   abbrev one_spec : Parser (SpecTree Spot)
   one_spec ts = spec_by names inner d (spec_start names ts) (spot ts) ts
 
-  abbrev No_brace : List Token → Type 0
-  No_brace us = next_is p.LeftBrace us ≡ false
+  abbrev NoBrace : List Token → Type 0
+  NoBrace us = next_is p.LeftBrace us ≡ false
 
   begins : (k : TokenKind) (n : Spot) (h : Type 0) (i : Outline) (ts m r : List Token) (st : SpecStart) (q : SpecTree Spot) → Reads (token h k (Some n) i) d ts m → spec_kind names k ≡ st → spec_by names inner d st n ts ≡ Ok (q, r) → one_spec ts ≡ Ok (q, r)
   begins k n h i ts m r st q y is read =
@@ -115,7 +115,7 @@ module _ (names : Names) (inner : Inner) (d : ℕ) where
       ∙ ap (λ xs. done (enum n t (more_constants c xs) trailing) r) (listed.constants_back cs)
 
   -- with its tag, if it has one
-  struct_again : MembersAgain → (n : Spot) (t : Option Name) (ms : MemberTrees Spot) (ts q m : List Token) → o.IsShaped (struct n t ms) → Reads (o.tag_of t) d ts q → Reads (o.member_list names ms) d q m → No_brace m
+  struct_again : MembersAgain → (n : Spot) (t : Option Name) (ms : MemberTrees Spot) (ts q m : List Token) → o.IsShaped (struct n t ms) → Reads (o.tag_of t) d ts q → Reads (o.member_list names ms) d q m → NoBrace m
       → and_then (tag names inner d ts) (struct_behind n) ≡ Ok (struct n t ms, m)
   struct_again again n None no_members ts q m shaped y z e = absurd shaped
   struct_again again n None (more_members l ls) ts q m shaped y z e =
@@ -126,7 +126,7 @@ module _ (names : Names) (inner : Inner) (d : ℕ) where
   struct_again again n (Some x) (more_members l ls) ts q m shaped y z e =
       bound (struct_behind n) (tag names inner d ts) (Some x) q (tag_some x ts q y) ∙ full_struct again n (Some x) l ls q m z
 
-  enum_again : ConstantsAgain → (n : Spot) (t : Option Name) (cs : ConstantTrees Spot) (trailing : Bool) (ts q m : List Token) → o.IsShaped (enum n t cs trailing) → Reads (o.tag_of t) d ts q → Reads (o.constant_list names cs trailing) d q m → No_brace m
+  enum_again : ConstantsAgain → (n : Spot) (t : Option Name) (cs : ConstantTrees Spot) (trailing : Bool) (ts q m : List Token) → o.IsShaped (enum n t cs trailing) → Reads (o.tag_of t) d ts q → Reads (o.constant_list names cs trailing) d q m → NoBrace m
       → and_then (tag names inner d ts) (enum_behind n) ≡ Ok (enum n t cs trailing, m)
   enum_again again n None no_constants trailing ts q m shaped y z e = absurd shaped
   enum_again again n None (more_constants c cs) trailing ts q m shaped y z e =
@@ -138,7 +138,7 @@ module _ (names : Names) (inner : Inner) (d : ℕ) where
   enum_again again n (Some x) (more_constants c cs) trailing ts q m shaped y z e =
       bound (enum_behind n) (tag names inner d ts) (Some x) q (tag_some x ts q y) ∙ full_enum again n (Some x) c cs trailing q m z
 
-  spec_again : MembersAgain → ConstantsAgain → (q : SpecTree Spot) → Again one_spec (listed.SpecSpan names d) No_brace q
+  spec_again : MembersAgain → ConstantsAgain → (q : SpecTree Spot) → Again one_spec (listed.SpecSpan names d) NoBrace q
   spec_again ma ca (word n v) ts r y e =
       let t = next_token (Unit {0}) (kind.Keyword (spec_keyword v)) (Some n) end d ts r y in
       begins (kind.Keyword (spec_keyword v)) n (Unit {0}) end ts r r (spec_word v) (word n v) y (word_begins v) (rest_is (word n v) (skip ts) r t.after)
@@ -164,6 +164,6 @@ module _ (names : Names) (inner : Inner) (d : ℕ) where
   specs_again ma ca no_specs n ts r b y e = absurd b
   specs_again ma ca (more_specs q ss) n ts r b y e =
       let all : repeated (starts_spec names) one_spec ts ≡ Ok (q ∷ listed.specs ss, r) =
-      repeated_again one_spec (listed.SpecSpan names d) No_brace (spec_again ma ca) (listed.spec_shorter names d) (starts_spec names) (λ us. spec_not names p.LeftBrace us) (q ∷ listed.specs ss) ts r
+      repeated_again one_spec (listed.SpecSpan names d) NoBrace (spec_again ma ca) (listed.spec_shorter names d) (starts_spec names) (λ us. spec_not names p.LeftBrace us) (q ∷ listed.specs ss) ts r
       (listed.spec_list names d q ss ts r y) e.no_spec e.no_brace in
       mapped gathered_specs (repeated (starts_spec names) one_spec ts) (q ∷ listed.specs ss) r all ∙ ap (λ xs. done (more_specs q xs) r) (listed.specs_back ss)
