@@ -1,8 +1,6 @@
 -- What it means that tokens begin with an outline: one relation for spelling, order and depth together.
-use Rattle.std.proofs.Common.{◌≡◌, ◌≤◌, ◌+◌, refl, ℕ, zero, suc, max, Bool, true, false, List, [], ◌∷◌, Option, arith, sym, subst}
+use Rattle.std.proofs.Common.{◌≡◌, ◌≤◌, refl, ℕ, zero, suc, Bool, true, false, List, [], ◌∷◌, arith, sym, subst}
 use Rattle.cc_lex.specs.declared.token.Token.{Token}
-use Rattle.cc_lex.specs.declared.token.TokenKind.{TokenKind}
-use Rattle.cc_tree.specs.declared.place.Spot.{Spot}
 use Rattle.cc_grammar.specs.Outline.{Outline, end, token, part, Written, AllHold, depth, deeper, spell, Stands, Meets}
 
 -- a part that counts leaves one less of the depth to what is in it

@@ -1,5 +1,5 @@
 -- Steps of reading: what a step that did not fail has read, and how a step reads what stands there.
-use Rattle.std.proofs.Common.{◌≡◌, ◌≤◌, ◌<◌, ◌+◌, refl, ℕ, zero, suc, Bool, true, false, List, [], ◌∷◌, length, Option, Some, None, Result, Ok, Err, arith, sym, ap, ◌∙◌, subst, ◌⊎◌, inl, inr}
+use Rattle.std.proofs.Common.{◌≡◌, ◌+◌, refl, ℕ, zero, suc, Bool, true, false, List, [], ◌∷◌, length, Option, None, Ok, Err, arith, sym, ap, ◌∙◌, subst, ◌⊎◌, inl, inr}
 use denote.Enum.Bare.{same_true, true_same}
 use Rattle.cc_tree.specs.declared.place.Spot.{Spot}
 use Rattle.cc_lex.specs.declared.token.Token.{Token}
@@ -13,7 +13,7 @@ use Rattle.cc_grammar.specs.Outline.{Outline, end, token, part, size, Stands}
 use Rattle.cc_grammar.specs.Outlines.{sign, key}
 use Rattle.cc_grammar.specs.Classes.{is_punct, is_keyword, next_is, next_is_key, skip, spot}
 use Rattle.cc_grammar.specs.Outcomes.{Outcome, Parser, and_then, take, take_key}
-use Rattle.cc_grammar.specs.Reading.{branch, where_next}
+use Rattle.cc_grammar.specs.Reading.{branch}
 use Rattle.cc_parse_laws.proofs.Spans.{Inside, Reads}
 
 -- ---- Steps that did not fail
@@ -83,9 +83,9 @@ pub take_ok : (s : Punct) (ts : List Token) (x : Unit {0} × List Token) → tak
 take_ok s [] x e = absurd cc
 take_ok s (t ∷ ts) x e = taken (is_punct s t.kind) refl
   where
-  taken : (b : Bool) → is_punct s t.kind ≡ b → (is_punct s t.kind ≡ true) × (ts ≡ x.1)
-  taken true h = (h, let got : take s (t ∷ ts) ≡ Ok (tt, ts) = rw h refl in ap (λ (y : Unit {0} × List Token). y.1) (ok_is (tt, ts) x (sym got ∙ e)))
-  taken false h = absurd (let got : take s (t ∷ ts) ≡ Err (t ∷ ts) = rw h refl in cc)
+    taken : (b : Bool) → is_punct s t.kind ≡ b → (is_punct s t.kind ≡ true) × (ts ≡ x.1)
+    taken true h = (h, let got : take s (t ∷ ts) ≡ Ok (tt, ts) = rw h refl in ap (λ (y : Unit {0} × List Token). y.1) (ok_is (tt, ts) x (sym got ∙ e)))
+    taken false h = absurd (let got : take s (t ∷ ts) ≡ Err (t ∷ ts) = rw h refl in cc)
 
 -- a punctuator that was taken is read
 pub take_reads : (s : Punct) (o : Outline) (d : ℕ) (ts r : List Token) (x : Unit {0} × List Token) → take s ts ≡ Ok x → Reads o d x.1 r → Reads (sign s o) d ts r
@@ -97,9 +97,9 @@ pub take_key_ok : (w : Keyword) (ts : List Token) (x : Unit {0} × List Token) �
 take_key_ok w [] x e = absurd cc
 take_key_ok w (t ∷ ts) x e = taken (is_keyword w t.kind) refl
   where
-  taken : (b : Bool) → is_keyword w t.kind ≡ b → (is_keyword w t.kind ≡ true) × (ts ≡ x.1)
-  taken true h = (h, let got : take_key w (t ∷ ts) ≡ Ok (tt, ts) = rw h refl in ap (λ (y : Unit {0} × List Token). y.1) (ok_is (tt, ts) x (sym got ∙ e)))
-  taken false h = absurd (let got : take_key w (t ∷ ts) ≡ Err (t ∷ ts) = rw h refl in cc)
+    taken : (b : Bool) → is_keyword w t.kind ≡ b → (is_keyword w t.kind ≡ true) × (ts ≡ x.1)
+    taken true h = (h, let got : take_key w (t ∷ ts) ≡ Ok (tt, ts) = rw h refl in ap (λ (y : Unit {0} × List Token). y.1) (ok_is (tt, ts) x (sym got ∙ e)))
+    taken false h = absurd (let got : take_key w (t ∷ ts) ≡ Err (t ∷ ts) = rw h refl in cc)
 
 pub take_key_reads : (w : Keyword) (o : Outline) (d : ℕ) (ts r : List Token) (x : Unit {0} × List Token) → take_key w ts ≡ Ok x → Reads o d x.1 r → Reads (key w o) d ts r
 take_key_reads w o d ts r x e h =
