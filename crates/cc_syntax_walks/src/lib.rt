@@ -9,6 +9,8 @@ mod nodes;
 mod notes;
 mod statement_depth;
 mod statement_nodes;
+#[cfg(test)]
+mod tests;
 
 pub use depth::{declarator_depth, expr_depth, specs_depth, type_depth};
 pub use nodes::{declarator_nodes, expr_nodes, specs_nodes, type_nodes};
