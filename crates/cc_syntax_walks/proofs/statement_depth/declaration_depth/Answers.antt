@@ -1,4 +1,3 @@
-use Rattle.std.proofs.Common.{rules}
 use Rattle.cc_syntax_walks.proofs.statement_depth.declaration_depth.Goals as goal
 
 pub returns : goal.returns

@@ -1,4 +1,4 @@
-use Rattle.std.proofs.Common.{rules, ◌≡◌, ◌<◌, ◌^◌, ◌∷◌, ◌+◌, ◌∙◌, arith, max, min, ◌-◌, refl}
+use Rattle.std.proofs.Common.{arith, refl}
 use Rattle.cc_syntax.specs.Views.{view_value, values_of}
 use Rattle.cc_syntax_walks.specs.Nodes as spec
 use Rattle.cc_syntax_walks.proofs.Loops.{sum_next, sum_all, fits}
