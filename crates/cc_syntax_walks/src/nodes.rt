@@ -1,7 +1,7 @@
 // How many nodes expressions have, and what stands in one cycle with them.
 ghost use Rattle.std.specs.Prelude.{◌≡◌, ◌-◌, ◌^◌, min};
 ghost use Rattle.cc_syntax.specs.Views.{view, view_type, view_spec, view_member, view_constant, view_declarator, exprs_of, option_of, types_of, specs_of, members_of, constants_of, declarators_of};
-ghost use Rattle.cc_syntax_walks.specs.Nodes as spec;
+ghost use Rattle.cc_syntax.specs.Nodes as spec;
 
 use cc_syntax::{Constant, Declarator, Expr, Member, Spec, TypeName};
 use sqlite_items::Boxed;

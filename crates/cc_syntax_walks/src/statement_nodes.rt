@@ -1,7 +1,7 @@
 // How many nodes statements have, and what stands around and below them.
 ghost use Rattle.std.specs.Prelude.{◌≡◌, ◌-◌, ◌^◌, min, map, option_map};
 ghost use Rattle.cc_syntax.specs.Views.{view, view_value, values_of, view_init, view_declaration, view_start, view_stmt, view_block, view_item, items_of, view_external, view_file};
-ghost use Rattle.cc_syntax_walks.specs.Nodes as spec;
+ghost use Rattle.cc_syntax.specs.Nodes as spec;
 
 use crate::nodes::{declarator_nodes, expr_nodes, specs_nodes};
 use cc_syntax::{Block, Declaration, Expr, External, FileTree, ForStart, Init, Item, Stmt, Value};

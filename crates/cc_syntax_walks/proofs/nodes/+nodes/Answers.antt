@@ -1,6 +1,6 @@
 use Rattle.std.proofs.Common.{refl}
 use Rattle.cc_syntax.specs.Views.{view, view_type, view_spec, view_member, view_constant, view_declarator, exprs_of, types_of, specs_of, members_of, constants_of, declarators_of}
-use Rattle.cc_syntax_walks.specs.Nodes as spec
+use Rattle.cc_syntax.specs.Nodes as spec
 use Rattle.cc_syntax_walks.proofs.Loops.{sum_next, sum_all, fits}
 use Rattle.cc_syntax_walks.proofs.nodes.+nodes.Goals as goal
 

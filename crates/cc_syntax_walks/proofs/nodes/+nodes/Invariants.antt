@@ -1,6 +1,6 @@
 use Rattle.std.proofs.Common.{◌≡◌, ◌+◌, ◌-◌, ◌^◌, ◌<◌, min, drop}
 use Rattle.cc_syntax.specs.Views.{exprs_of, types_of, specs_of, members_of, constants_of, declarators_of}
-use Rattle.cc_syntax_walks.specs.Nodes as spec
+use Rattle.cc_syntax.specs.Nodes as spec
 use Rattle.cc_syntax_walks.proofs.nodes.+nodes.Given as goal
 
 abbrev pub invariant-exprs_nodes-loop-e : goal.invariant-exprs_nodes-loop-e

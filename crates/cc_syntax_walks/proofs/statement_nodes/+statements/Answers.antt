@@ -1,6 +1,6 @@
 use Rattle.std.proofs.Common.{rules, arith, refl}
 use Rattle.cc_syntax.specs.Views.{view_item, items_of}
-use Rattle.cc_syntax_walks.specs.Nodes as spec
+use Rattle.cc_syntax.specs.Nodes as spec
 use Rattle.cc_syntax_walks.proofs.Loops.{sum_next, sum_all, fits, item_falls, list_falls}
 use Rattle.cc_syntax.specs.declared.stmt.Block.{size-Block, size_is-Block}
 use Rattle.cc_syntax_walks.proofs.Seen.{block_is}

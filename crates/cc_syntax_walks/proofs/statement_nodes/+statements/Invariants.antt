@@ -1,6 +1,6 @@
 use Rattle.std.proofs.Common.{◌≡◌, ◌+◌, ◌-◌, ◌^◌, ◌<◌, min, drop}
 use Rattle.cc_syntax.specs.Views.{items_of}
-use Rattle.cc_syntax_walks.specs.Nodes as spec
+use Rattle.cc_syntax.specs.Nodes as spec
 use Rattle.cc_syntax_walks.proofs.statement_nodes.+statements.Given as goal
 
 abbrev pub invariant-items_nodes-loop-i : goal.invariant-items_nodes-loop-i

@@ -1,6 +1,6 @@
 use Rattle.std.proofs.Common.{arith, refl}
 use Rattle.cc_syntax.specs.Views.{view_value, values_of}
-use Rattle.cc_syntax_walks.specs.Nodes as spec
+use Rattle.cc_syntax.specs.Nodes as spec
 use Rattle.cc_syntax_walks.proofs.Loops.{sum_next, sum_all, fits}
 use Rattle.cc_syntax_walks.proofs.Seen.{braces_are}
 use Rattle.cc_syntax_walks.proofs.statement_nodes.+values.Goals as goal

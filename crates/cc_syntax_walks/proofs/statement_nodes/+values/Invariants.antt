@@ -1,6 +1,6 @@
 use Rattle.std.proofs.Common.{◌≡◌, ◌+◌, ◌-◌, ◌^◌, ◌<◌, min, drop}
 use Rattle.cc_syntax.specs.Views.{values_of}
-use Rattle.cc_syntax_walks.specs.Nodes as spec
+use Rattle.cc_syntax.specs.Nodes as spec
 use Rattle.cc_syntax_walks.proofs.statement_nodes.+values.Given as goal
 
 abbrev pub invariant-values_nodes-loop-v : goal.invariant-values_nodes-loop-v

@@ -1,6 +1,6 @@
 use Rattle.std.proofs.Common.{refl, map}
 use Rattle.cc_syntax.specs.Views.{view_external}
-use Rattle.cc_syntax_walks.specs.Nodes as spec
+use Rattle.cc_syntax.specs.Nodes as spec
 use Rattle.cc_syntax_walks.proofs.Loops.{sum_all}
 use Rattle.cc_syntax_walks.proofs.statement_nodes.externals_nodes.Goals as goal
 

@@ -1,6 +1,6 @@
 use Rattle.std.proofs.Common.{◌≡◌, ◌+◌, ◌-◌, ◌^◌, ◌<◌, min, drop, map}
 use Rattle.cc_syntax.specs.Views.{view_init}
-use Rattle.cc_syntax_walks.specs.Nodes as spec
+use Rattle.cc_syntax.specs.Nodes as spec
 use Rattle.cc_syntax_walks.proofs.statement_nodes.inits_nodes.Given as goal
 
 abbrev pub invariant-loop-i : goal.invariant-loop-i
