@@ -10,8 +10,8 @@ use crate::class::{SpecStart, Start, StmtStart, Tail};
 use crate::fault::Fault;
 use crate::names::TypedefNames;
 use crate::table::{spec_key, start_key, start_sign, stmt_key, stmt_sign, tail_sign};
-use cc_lex::{Keyword, Punct, Token, TokenKind};
 use cc_arith::IntKind;
+use cc_lex::{Keyword, Punct, Token, TokenKind};
 use cc_tree::{Bytes, Spot, Text};
 use std::marker::Model;
 

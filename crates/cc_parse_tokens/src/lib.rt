@@ -9,6 +9,8 @@ mod cursor;
 mod fault;
 mod names;
 mod table;
+#[cfg(test)]
+mod tests;
 
 pub use class::{SpecStart, Start, StmtStart, Tail};
 pub use cursor::Cursor;
