@@ -1,1 +1,2 @@
 pub mod InnerReaders
+pub mod ListLoops

@@ -6,8 +6,10 @@
 #![tactic(auto)]
 
 mod grammar;
+mod identifier;
 mod mode;
 mod readers;
+mod type_name;
 
 pub use mode::Mode;
 pub use readers::{declarator, expr, specs};
