@@ -9,6 +9,8 @@ mod grammar;
 mod identifier;
 mod mode;
 mod readers;
+mod shape;
+mod tails;
 mod type_name;
 
 pub use mode::Mode;
