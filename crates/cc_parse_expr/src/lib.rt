@@ -5,9 +5,11 @@
 //! reader of the same name in `cc_grammar`'s definitions of reading gives.
 #![tactic(auto)]
 
+mod expression;
 mod grammar;
 mod identifier;
 mod mode;
+mod prefix;
 mod readers;
 mod shape;
 mod tails;
