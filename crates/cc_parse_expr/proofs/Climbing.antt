@@ -19,8 +19,14 @@ use Rattle.cc_grammar.specs.Reading.{Inner, id, arguments, go_on, goes_on, climb
 abbrev Deep : ℕ → Outcome (ExprTree Spot) → Type 0
 Deep n o = (x : ExprTree Spot) (r : List Token) → o ≡ Ok (x, r) → n < expr_depth x
 
+abbrev done : ExprTree Spot × List Token → Outcome (ExprTree Spot)
+done a = Ok a
+
 made : (x y : ExprTree Spot) (m r : List Token) (o : Outcome (ExprTree Spot)) → o ≡ Ok (x, m) → o ≡ Ok (y, r) → x ≡ y
-made x y m r o e f = cc
+made x y m r o e f = ap (λ q. q.0) (same_pair (x, m) (y, r) (sym e ∙ f))
+  where
+  same_pair : (a b : ExprTree Spot × List Token) → done a ≡ done b → a ≡ b
+  same_pair a b h = cc
 
 deep_map : {A : Type 0} (n : ℕ) (f : A → ExprTree Spot) → ((a : A) → n < expr_depth (f a)) → (o : Outcome A) → Deep n (and_then o (λ a s. Ok (f a, s)))
 deep_map n f h (Ok y) x r e = let same : f y.0 ≡ x = made (f y.0) x y.1 r _ refl e in omega (arith, h y.0, ap expr_depth same)
@@ -43,8 +49,8 @@ module _ (names : Names) (inner : Inner) (d : ℕ) where
       deep_bind _ (λ i. take p.RightBracket >> pure (index n left i)) (λ i s. deep_map _ (λ _. index n left i) (λ _. omega arith) (take p.RightBracket s)) (inner.expr 1 ts)
   go_on_deep left goes_dot n ts = deep_map _ (member n left) (λ b. omega arith) (id names ts)
   go_on_deep left goes_arrow n ts = deep_map _ (arrow n left) (λ b. omega arith) (id names ts)
-  go_on_deep left (goes_step op) n ts x r e = let same : step n op side.After left ≡ x = made (step n op side.After left) x ts r _ refl e in omega (arith, ap expr_depth same)
-  go_on_deep left ends_here n ts x r e = absurd cc
+  go_on_deep left (goes_step op) n ts = λ x r e. let same : step n op side.After left ≡ x = made (step n op side.After left) x ts r _ refl e in omega (arith, ap expr_depth same)
+  go_on_deep left ends_here n ts = λ x r e. absurd cc
 
   pub goes_on_room : (least : ℕ) (left : ExprTree Spot) (t : Tail) → true ≡ goes_on names inner d least left t → expr_depth left < d
   goes_on_room least left t e =
