@@ -44,6 +44,13 @@ impl<
         Ok(copy)
     }
 
+    /// Whether a string literal comes next.
+    fn has_literal(&self, tokens: &Cursor<'_>) -> bool
+        ensures { result ≡ spec.is_literal self.now.names.now (inner_at self.now.names.now self.now.depth) self.now.depth (class.next_literal tokens.now) }
+    {
+        tokens.literal().is_some()
+    }
+
     /// String literals, one at least, side by side (C17 6.4.5p5).
     fn literals(&self, tokens: &mut Cursor<'_>) -> Result<List<Bytes>, Fault>
         ensures { Gives (λ x. x) (spec.literals self.now.names.now (inner_at self.now.names.now self.now.depth) self.now.depth tokens.old) result tokens.new }
@@ -51,7 +58,7 @@ impl<
         let mut found = List::new(self.alloc);
         for _turn in 0..tokens.len() {
             found.push(self.literal(tokens)?)?;
-            if tokens.literal().is_none() {
+            if !self.has_literal(tokens) {
                 return Ok(found);
             }
         }
