@@ -1,3 +1,4 @@
+pub mod Beginnings
 pub mod Climbing
 pub mod InnerReaders
 pub mod ListLoops
