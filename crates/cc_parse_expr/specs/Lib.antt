@@ -1,2 +1,3 @@
 pub mod Modes
 pub mod Nests
+pub mod Parts

@@ -5,7 +5,9 @@
 //! reader of the same name in `cc_grammar`'s definitions of reading gives.
 #![tactic(auto)]
 
+mod declarators;
 mod grammar;
+mod identifier;
 mod mode;
 mod readers;
 
