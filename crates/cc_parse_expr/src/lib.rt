@@ -10,6 +10,7 @@ mod grammar;
 mod identifier;
 mod mode;
 mod readers;
+mod type_name;
 
 pub use mode::Mode;
 pub use readers::{declarator, expr, specs};
