@@ -17,7 +17,7 @@ use cc_lex::{Keyword, Punct};
 use cc_parse_tokens::{Cursor, Fault, TypedefNames};
 use cc_syntax::{Declarator, Expr, Spec};
 use cc_syntax_limits::declarator_fits;
-use cc_syntax_make::{array, grouped, pointer};
+use cc_syntax_make::{array, function, grouped, pointer};
 use cc_tree::Spot;
 use sqlite_items::Items;
 use std::alloc::Global;
@@ -100,6 +100,45 @@ impl<
         }
         tokens.mark();
         false
+    }
+
+    /// `left` with an array's brackets behind it (C17 6.7.6.2).
+    fn array_of(&self, tokens: &mut Cursor<'_>, left: Declarator<Spot>, note: Spot) -> Result<Declarator<Spot>, Fault>
+        requires room { 0 < self.now.depth }
+        requires nests_expr { NestsExpr self.now.depth (E.pre self.now.expr) (E.post self.now.expr) }
+        ensures { Gives view_declarator (part.array_of self.now.names.now (inner_at self.now.names.now self.now.depth) self.now.depth (view_declarator left) note tokens.old) result tokens.new }
+    {
+        tokens.skip();
+        let length = self.array_length(tokens)?;
+        Ok(array(self.alloc, note, left, length)?)
+    }
+
+    /// `left` with parameters behind it (C17 6.7.6.3).
+    fn function_of(&self, tokens: &mut Cursor<'_>, left: Declarator<Spot>, note: Spot) -> Result<Declarator<Spot>, Fault>
+        requires room { 0 < self.now.depth }
+        requires nests_specs { NestsSpecs self.now.depth (S.pre self.now.specs) (S.post self.now.specs) }
+        requires nests_declarator { NestsDeclarator self.now.depth (D.pre self.now.declarator) (D.post self.now.declarator) }
+        ensures { Gives view_declarator (part.function_of self.now.names.now (inner_at self.now.names.now self.now.depth) self.now.depth (view_declarator left) note tokens.old) result tokens.new }
+    {
+        tokens.skip();
+        let parameters = self.parameters(tokens)?;
+        Ok(function(self.alloc, note, left, parameters)?)
+    }
+
+    /// What goes on behind a declarator: an array's brackets, or parameters.
+    fn suffix(&self, tokens: &mut Cursor<'_>, left: Declarator<Spot>) -> Result<Declarator<Spot>, Fault>
+        requires room { 0 < self.now.depth }
+        requires nests_expr { NestsExpr self.now.depth (E.pre self.now.expr) (E.post self.now.expr) }
+        requires nests_specs { NestsSpecs self.now.depth (S.pre self.now.specs) (S.post self.now.specs) }
+        requires nests_declarator { NestsDeclarator self.now.depth (D.pre self.now.declarator) (D.post self.now.declarator) }
+        ensures { Gives view_declarator (spec.suffix self.now.names.now (inner_at self.now.names.now self.now.depth) self.now.depth (view_declarator left) tokens.old) result tokens.new }
+    {
+        let note = spot_or(&left, tokens.spot());
+        if tokens.next_is(Punct::LeftBracket) {
+            self.array_of(tokens, left, note)
+        } else {
+            self.function_of(tokens, left, note)
+        }
     }
 
     /// What is written inside of parentheses.
