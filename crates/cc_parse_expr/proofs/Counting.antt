@@ -29,19 +29,19 @@ module _ (names : Names) (inner : Inner) (d : ℕ) where
   abbrev pub Counting : Outcome ℕ → ℕ → ℕ → List Token → Type 0
   Counting total count turns ts = total ≡ counted count (consts_by names inner d turns ts)
 
-  by_next : (count turns : ℕ) (ts : List Token) (b : Bool) → b ≡ true → counted count (branch b (skipping ((λ c. c + 1) <$> consts_by names inner d turns)) (pure 0) ts) ≡ counted (count + 1) (consts_by names inner d turns (skip ts))
+  by_next : (count turns : ℕ) (ts : List Token) (b : Bool) → true ≡ b → counted count (branch b (skipping ((λ c. c + 1) <$> consts_by names inner d turns)) (pure 0) ts) ≡ counted (count + 1) (consts_by names inner d turns (skip ts))
   by_next count turns ts true e = one_counted count (consts_by names inner d turns (skip ts))
   by_next count turns ts false e = absurd cc
 
-  pub counts : (total : Outcome ℕ) (count n at : ℕ) (ts : List Token) → at < n → Counting total count (n - at) ts → next_is_key k.Const ts ≡ true → Counting total (count + 1) (n - (at + 1)) (skip ts)
+  pub counts : (total : Outcome ℕ) (count n at : ℕ) (ts : List Token) → at < n → Counting total count (n - at) ts → true ≡ next_is_key k.Const ts → Counting total (count + 1) (n - (at + 1)) (skip ts)
   counts total count n at ts below e is =
       one_more (λ turns. counted count (consts_by names inner d turns ts)) n at below e ∙ by_next count (n - (at + 1)) ts (next_is_key k.Const ts) is
 
-  stops_at : (count turns : ℕ) (ts : List Token) (b : Bool) → b ≡ false → counted count (branch b (skipping ((λ c. c + 1) <$> consts_by names inner d turns)) (pure 0) ts) ≡ Ok (count, ts)
+  stops_at : (count turns : ℕ) (ts : List Token) (b : Bool) → false ≡ b → counted count (branch b (skipping ((λ c. c + 1) <$> consts_by names inner d turns)) (pure 0) ts) ≡ Ok (count, ts)
   stops_at count turns ts true e = absurd cc
   stops_at count turns ts false e = none_more count ts
 
-  pub stops : (total : Outcome ℕ) (count n at : ℕ) (ts : List Token) → at < n → Counting total count (n - at) ts → next_is_key k.Const ts ≡ false → total ≡ Ok (count, ts)
+  pub stops : (total : Outcome ℕ) (count n at : ℕ) (ts : List Token) → at < n → Counting total count (n - at) ts → false ≡ next_is_key k.Const ts → total ≡ Ok (count, ts)
   stops total count n at ts below e is =
       one_more (λ turns. counted count (consts_by names inner d turns ts)) n at below e ∙ stops_at count (n - (at + 1)) ts (next_is_key k.Const ts) is
 

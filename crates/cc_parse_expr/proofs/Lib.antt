@@ -1,3 +1,4 @@
 pub mod Counting
 pub mod InnerReaders
 pub mod ListLoops
+pub mod Suffixes

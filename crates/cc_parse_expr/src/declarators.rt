@@ -86,20 +86,27 @@ impl<
         Ok(Some(length))
     }
 
+    /// Whether a suffix comes: `[` or `(`.
+    fn suffix_comes(&self, tokens: &Cursor<'_>) -> bool
+        ensures { result ≡ spec.suffix_comes self.now.names.now (inner_at self.now.names.now self.now.depth) self.now.depth tokens.now }
+    {
+        tokens.next_is(Punct::LeftBracket) || tokens.next_is(Punct::LeftParen)
+    }
+
     /// Whether a suffix comes that `left` can have. One that is refused for its depth alone is marked.
     fn has_suffix(&self, tokens: &mut Cursor<'_>, left: &Declarator<Spot>) -> bool
         requires room { 0 < self.now.depth }
         ensures answer { result ≡ (spec.suffix_comes self.now.names.now (inner_at self.now.names.now self.now.depth) self.now.depth tokens.old && nat_lt (declarator_depth (view_declarator left.now)) self.now.depth) }
         ensures stays { tokens.new ≡ tokens.old }
     {
-        if !(tokens.next_is(Punct::LeftBracket) || tokens.next_is(Punct::LeftParen)) {
+        if !self.suffix_comes(tokens) {
             return false;
         }
-        if declarator_fits(left, self.depth - 1) {
-            return true;
+        let fits = declarator_fits(left, self.depth - 1);
+        if !fits {
+            tokens.mark();
         }
-        tokens.mark();
-        false
+        fits
     }
 
     /// `left` with an array's brackets behind it (C17 6.7.6.2).
@@ -248,5 +255,71 @@ impl<
         let inside = self.inner_declarator(tokens, mode)?;
         let note = opening(&inside, first);
         Ok(pointer(self.alloc, note, count, inside)?)
+    }
+
+    /// Goes on behind `first` as long as a suffix comes and there is room for it.
+    fn suffixes(
+        &self,
+        tokens: &mut Cursor<'_>,
+        first: Declarator<Spot>,
+    ) -> Result<Declarator<Spot>, Fault>
+        requires room { 0 < self.now.depth }
+        requires nests_expr { NestsExpr self.now.depth (E.pre self.now.expr) (E.post self.now.expr) }
+        requires nests_specs { NestsSpecs self.now.depth (S.pre self.now.specs) (S.post self.now.specs) }
+        requires nests_declarator { NestsDeclarator self.now.depth (D.pre self.now.declarator) (D.post self.now.declarator) }
+        ensures { Gives view_declarator (spec.suffixes self.now.names.now (inner_at self.now.names.now self.now.depth) self.now.depth self.now.depth (view_declarator first) tokens.old) result tokens.new }
+    {
+        let mut left = first;
+        for _turn in 0..self.depth {
+            if !self.has_suffix(tokens, &left) {
+                return Ok(left);
+            }
+            left = self.suffix(tokens, left)?;
+        }
+        // Each suffix made it deeper, so that there is no room for another.
+        if self.suffix_comes(tokens) {
+            tokens.mark();
+        }
+        Ok(left)
+    }
+
+    /// A declarator where there is room for one.
+    fn some_declarator(&self, tokens: &mut Cursor<'_>, mode: Mode) -> Result<Declarator<Spot>, Fault>
+        requires room { 0 < self.now.depth }
+        requires nests_expr { NestsExpr self.now.depth (E.pre self.now.expr) (E.post self.now.expr) }
+        requires nests_specs { NestsSpecs self.now.depth (S.pre self.now.specs) (S.post self.now.specs) }
+        requires nests_declarator { NestsDeclarator self.now.depth (D.pre self.now.declarator) (D.post self.now.declarator) }
+        ensures { Gives view_declarator (part.some_declarator self.now.names.now (inner_at self.now.names.now self.now.depth) self.now.depth (mode_of mode) tokens.old) result tokens.new }
+    {
+        if tokens.next_is(Punct::Star) {
+            return self.pointed(tokens, mode);
+        }
+        let first = self.direct(tokens, mode)?;
+        self.suffixes(tokens, first)
+    }
+
+    /// Marks the next token if a declarator would begin with it where there is room for one.
+    fn mark_declarator(&self, tokens: &mut Cursor<'_>, mode: Mode)
+        ensures { tokens.new ≡ tokens.old }
+    {
+        let begins = tokens.next_is(Punct::Star) || tokens.next_is(Punct::LeftParen);
+        let begins_nameless = mode != Mode::Named && tokens.next_is(Punct::LeftBracket);
+        if begins || begins_nameless || self.has_name(tokens, mode) {
+            tokens.mark();
+        }
+    }
+
+    /// A declarator: with a name, without one, or either (C17 6.7.6, 6.7.7).
+    pub fn declarator(&self, tokens: &mut Cursor<'_>, mode: Mode) -> Result<Declarator<Spot>, Fault>
+        requires nests_expr { 0 < self.now.depth → NestsExpr self.now.depth (E.pre self.now.expr) (E.post self.now.expr) }
+        requires nests_specs { 0 < self.now.depth → NestsSpecs self.now.depth (S.pre self.now.specs) (S.post self.now.specs) }
+        requires nests_declarator { 0 < self.now.depth → NestsDeclarator self.now.depth (D.pre self.now.declarator) (D.post self.now.declarator) }
+        ensures { Gives view_declarator (spec.declarator self.now.names.now (inner_at self.now.names.now self.now.depth) self.now.depth (mode_of mode) tokens.old) result tokens.new }
+    {
+        if self.depth == 0 {
+            self.mark_declarator(tokens, mode);
+            return self.nothing(tokens, mode);
+        }
+        self.some_declarator(tokens, mode)
     }
 }
