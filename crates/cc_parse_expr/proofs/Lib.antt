@@ -1,4 +1,6 @@
 pub mod Counting
+pub mod EnclosedLoops
 pub mod InnerReaders
 pub mod ListLoops
+pub mod SpecClasses
 pub mod Suffixes

@@ -61,7 +61,11 @@ pub fn spot_or(d: &Declarator<Spot>, other: Spot) -> Spot
 pub fn opening(d: &Declarator<Spot>, first: Spot) -> Spot
     ensures { result ≡ spec.opening (view_declarator d.now) first }
 {
-    if is_named(d) { spot_or(d, first) } else { first }
+    if is_named(d) {
+        spot_or(d, first)
+    } else {
+        first
+    }
 }
 
 impl<
@@ -69,8 +73,7 @@ impl<
     E: Fn(Global, &mut Cursor<'_>, &TypedefNames, u32, u8) -> Result<Expr<Spot>, Fault>,
     S: Fn(Global, &mut Cursor<'_>, &TypedefNames, u32) -> Result<Items<Spec<Spot>>, Fault>,
     D: Fn(Global, &mut Cursor<'_>, &TypedefNames, u32, Mode) -> Result<Declarator<Spot>, Fault>,
-> Grammar<'n, E, S, D>
-{
+> Grammar<'n, E, S, D> {
     /// The length of an array behind its `[`, with the `]` (C17 6.7.6.2).
     fn array_length(&self, tokens: &mut Cursor<'_>) -> Result<Option<Expr<Spot>>, Fault>
         requires room { 0 < self.now.depth }
@@ -110,7 +113,12 @@ impl<
     }
 
     /// `left` with an array's brackets behind it (C17 6.7.6.2).
-    fn array_of(&self, tokens: &mut Cursor<'_>, left: Declarator<Spot>, note: Spot) -> Result<Declarator<Spot>, Fault>
+    fn array_of(
+        &self,
+        tokens: &mut Cursor<'_>,
+        left: Declarator<Spot>,
+        note: Spot,
+    ) -> Result<Declarator<Spot>, Fault>
         requires room { 0 < self.now.depth }
         requires nests_expr { NestsExpr self.now.depth (E.pre self.now.expr) (E.post self.now.expr) }
         ensures { Gives view_declarator (part.array_of self.now.names.now (inner_at self.now.names.now self.now.depth) self.now.depth (view_declarator left) note tokens.old) result tokens.new }
@@ -121,7 +129,12 @@ impl<
     }
 
     /// `left` with parameters behind it (C17 6.7.6.3).
-    fn function_of(&self, tokens: &mut Cursor<'_>, left: Declarator<Spot>, note: Spot) -> Result<Declarator<Spot>, Fault>
+    fn function_of(
+        &self,
+        tokens: &mut Cursor<'_>,
+        left: Declarator<Spot>,
+        note: Spot,
+    ) -> Result<Declarator<Spot>, Fault>
         requires room { 0 < self.now.depth }
         requires nests_specs { NestsSpecs self.now.depth (S.pre self.now.specs) (S.post self.now.specs) }
         requires nests_declarator { NestsDeclarator self.now.depth (D.pre self.now.declarator) (D.post self.now.declarator) }
@@ -133,7 +146,11 @@ impl<
     }
 
     /// What goes on behind a declarator: an array's brackets, or parameters.
-    fn suffix(&self, tokens: &mut Cursor<'_>, left: Declarator<Spot>) -> Result<Declarator<Spot>, Fault>
+    fn suffix(
+        &self,
+        tokens: &mut Cursor<'_>,
+        left: Declarator<Spot>,
+    ) -> Result<Declarator<Spot>, Fault>
         requires room { 0 < self.now.depth }
         requires nests_expr { NestsExpr self.now.depth (E.pre self.now.expr) (E.post self.now.expr) }
         requires nests_specs { NestsSpecs self.now.depth (S.pre self.now.specs) (S.post self.now.specs) }
@@ -284,7 +301,11 @@ impl<
     }
 
     /// A declarator where there is room for one.
-    fn some_declarator(&self, tokens: &mut Cursor<'_>, mode: Mode) -> Result<Declarator<Spot>, Fault>
+    fn some_declarator(
+        &self,
+        tokens: &mut Cursor<'_>,
+        mode: Mode,
+    ) -> Result<Declarator<Spot>, Fault>
         requires room { 0 < self.now.depth }
         requires nests_expr { NestsExpr self.now.depth (E.pre self.now.expr) (E.post self.now.expr) }
         requires nests_specs { NestsSpecs self.now.depth (S.pre self.now.specs) (S.post self.now.specs) }

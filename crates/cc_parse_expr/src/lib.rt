@@ -10,6 +10,7 @@ mod grammar;
 mod identifier;
 mod mode;
 mod readers;
+mod specifier;
 mod type_name;
 
 pub use mode::Mode;

@@ -13,7 +13,7 @@ returns-in_err-left g c =
     let total = spec.suffixes names (inner_at names d) d d (view_declarator c.args.first) c.args.tokens.now in
     let p = err_from_is_err_and c.from_residual.result c.from_residual.ensures.1 in
     rw (p.1, p.2) (λ s. suffix_fails names (inner_at names d) d total d c.loop-turn._turn (view_declarator c.loop-turn.left) c.loop-turn.tokens c.loop-turn-test.true c.loop-turn.invariant c.if-not-has_suffix.ensures.answer c.suffix.new.tokens
-      (rw c.has_suffix.ensures.stays at (c.in_err-left.ensures s)))
+    (rw c.has_suffix.ensures.stays at (c.in_err-left.ensures s)))
 
 pub loop-turn-preserved : goal.loop-turn-preserved
 loop-turn-preserved g c =
@@ -21,4 +21,4 @@ loop-turn-preserved g c =
     let d = c.args.self.now.depth in
     let total = spec.suffixes names (inner_at names d) d d (view_declarator c.args.first) c.args.tokens.now in
     suffix_goes names (inner_at names d) d total d c.loop-turn._turn (view_declarator c.loop-turn.left) c.loop-turn.tokens c.loop-turn-test.true c.loop-turn.invariant c.if-not-has_suffix.ensures.answer (view_declarator c.in_ok-left.left) c.suffix.new.tokens
-      (rw c.has_suffix.ensures.stays at c.in_ok-left.ensures)
+    (rw c.has_suffix.ensures.stays at c.in_ok-left.ensures)
