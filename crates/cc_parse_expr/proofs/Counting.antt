@@ -1,5 +1,5 @@
 -- The `const` behind a `*`, turn by turn.
-use Rattle.std.proofs.Common.{◌≡◌, ◌+◌, ◌-◌, ◌<◌, ◌≤◌, refl, ℕ, zero, suc, Bool, true, false, List, length, Result, Ok, Err, arith, sym, ap, ◌∙◌}
+use Rattle.std.proofs.Common.{◌≡◌, ◌+◌, ◌-◌, ◌<◌, ◌≤◌, refl, ℕ, Bool, true, false, List, length, Ok, Err, arith, ap, ◌∙◌}
 use Rattle.cc_lex.specs.declared.token.Token.{Token}
 use Rattle.cc_lex.specs.declared.keyword.Keyword.TheVariants as k
 use Rattle.cc_grammar.specs.Names.{Names}

@@ -1,5 +1,5 @@
 -- The suffixes of a declarator, turn by turn.
-use Rattle.std.proofs.Common.{◌≡◌, ◌+◌, ◌-◌, ◌<◌, ◌≤◌, ◌&&◌, nat_lt, refl, ℕ, suc, true, false, List, Result, Ok, Err, arith, sym, ◌∙◌}
+use Rattle.std.proofs.Common.{◌≡◌, ◌+◌, ◌-◌, ◌<◌, ◌≤◌, ◌&&◌, nat_lt, refl, ℕ, suc, true, false, List, Ok, Err, sym, ◌∙◌}
 use Rattle.cc_tree.specs.declared.place.Spot.{Spot}
 use Rattle.cc_lex.specs.declared.token.Token.{Token}
 use Rattle.cc_syntax.specs.Depth.{declarator_depth}

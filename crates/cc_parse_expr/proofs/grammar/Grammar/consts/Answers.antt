@@ -1,4 +1,4 @@
-use Rattle.std.proofs.Common.{◌≡◌, ◌≤◌, ◌+◌, ◌-◌, arith, sym, ap, ◌∙◌}
+use Rattle.std.proofs.Common.{arith}
 use Rattle.cc_grammar.specs.Reading as spec
 use Rattle.cc_parse_expr.specs.Modes.{inner_at}
 use Rattle.cc_parse_expr.proofs.Counting.{counts, stops, ends, starting}

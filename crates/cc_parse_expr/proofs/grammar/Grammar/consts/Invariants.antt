@@ -1,4 +1,4 @@
-use Rattle.std.proofs.Common.{◌≡◌, ◌≤◌, ◌-◌}
+use Rattle.std.proofs.Common.{◌≤◌, ◌-◌}
 use Rattle.cc_grammar.specs.Reading as spec
 use Rattle.cc_parse_expr.specs.Modes.{inner_at}
 use Rattle.cc_parse_expr.proofs.Counting.{Counting}
