@@ -5,6 +5,7 @@
 //! reader of the same name in `cc_grammar`'s definitions of reading gives.
 #![tactic(auto)]
 
+mod declarators;
 mod expression;
 mod grammar;
 mod identifier;
@@ -12,6 +13,7 @@ mod mode;
 mod prefix;
 mod readers;
 mod shape;
+mod specifier;
 mod tails;
 mod type_name;
 

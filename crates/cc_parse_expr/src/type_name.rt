@@ -20,8 +20,7 @@ impl<
     E: Fn(Global, &mut Cursor<'_>, &TypedefNames, u32, u8) -> Result<Expr<Spot>, Fault>,
     S: Fn(Global, &mut Cursor<'_>, &TypedefNames, u32) -> Result<Items<Spec<Spot>>, Fault>,
     D: Fn(Global, &mut Cursor<'_>, &TypedefNames, u32, Mode) -> Result<Declarator<Spot>, Fault>,
-> Grammar<'n, E, S, D>
-{
+> Grammar<'n, E, S, D> {
     /// A type name, or a parameter: specifiers, then a declarator (C17 6.7.6.3, 6.7.7).
     pub fn typed(&self, tokens: &mut Cursor<'_>, mode: Mode) -> Result<TypeName<Spot>, Fault>
         requires room { 0 < self.now.depth }
