@@ -28,8 +28,7 @@ impl<
     E: Fn(Global, &mut Cursor<'_>, &TypedefNames, u32, u8) -> Result<Expr<Spot>, Fault>,
     S: Fn(Global, &mut Cursor<'_>, &TypedefNames, u32) -> Result<Items<Spec<Spot>>, Fault>,
     D: Fn(Global, &mut Cursor<'_>, &TypedefNames, u32, Mode) -> Result<Declarator<Spot>, Fault>,
-> Grammar<'n, E, S, D>
-{
+> Grammar<'n, E, S, D> {
     /// An expression inside.
     #[tactic(auto, using(crate::proofs::InnerReaders::inner_is))]
     pub fn inner_expr(&self, tokens: &mut Cursor<'_>, least: u8) -> Result<Expr<Spot>, Fault>
@@ -52,7 +51,11 @@ impl<
 
     /// A declarator inside.
     #[tactic(auto, using(crate::proofs::InnerReaders::inner_is))]
-    pub fn inner_declarator(&self, tokens: &mut Cursor<'_>, mode: Mode) -> Result<Declarator<Spot>, Fault>
+    pub fn inner_declarator(
+        &self,
+        tokens: &mut Cursor<'_>,
+        mode: Mode,
+    ) -> Result<Declarator<Spot>, Fault>
         requires room { 0 < self.now.depth }
         requires nests { NestsDeclarator self.now.depth (D.pre self.now.declarator) (D.post self.now.declarator) }
         ensures { Gives view_declarator ((inner_at self.now.names.now self.now.depth).declarator (mode_of mode) tokens.old) result tokens.new }

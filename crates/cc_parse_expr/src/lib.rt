@@ -5,9 +5,17 @@
 //! reader of the same name in `cc_grammar`'s definitions of reading gives.
 #![tactic(auto)]
 
+mod declarators;
+mod expression;
 mod grammar;
+mod identifier;
 mod mode;
+mod prefix;
 mod readers;
+mod shape;
+mod specifier;
+mod tails;
+mod type_name;
 
 pub use mode::Mode;
 pub use readers::{declarator, expr, specs};

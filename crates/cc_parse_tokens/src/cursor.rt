@@ -81,6 +81,16 @@ impl<'a> Cursor<'a> {
         }
     }
 
+    /// The tokens behind the next one, with no token marked. The cursor stays.
+    pub fn behind(&self) -> Cursor<'a>
+        ensures { result ≡ grammar.skip self.now }
+    {
+        match self.rest {
+            [] => Cursor::new(self.rest),
+            [_, rest @ ..] => Cursor::new(rest),
+        }
+    }
+
     /// Whether this punctuator comes next.
     pub fn next_is(&self, sign: Punct) -> bool
         ensures { result ≡ grammar.next_is sign self.now }
