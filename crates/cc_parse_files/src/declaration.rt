@@ -4,7 +4,7 @@ ghost use Rattle.cc_grammar.specs.Reading as spec;
 ghost use Rattle.cc_grammar.specs.Names as typedefs;
 ghost use Rattle.cc_syntax.specs.Views.{view_value, view_init, view_declarator, view_declaration, specs_of};
 ghost use Rattle.cc_parse_tokens.specs.Gives.{Gives};
-ghost use Rattle.cc_parse.specs.Parts as parts;
+ghost use Rattle.cc_parse_files.specs.Parts as parts;
 
 use crate::initialiser::value;
 use cc_lex::Punct;

@@ -6,9 +6,9 @@ use Rattle.cc_grammar.specs.Names as typedefs
 use Rattle.cc_syntax.specs.Trees.{init}
 use Rattle.cc_syntax.specs.Views.{view_declarator, view_init, view_value}
 use Rattle.cc_parse_tokens.proofs.Turns.{one_more, no_more}
-use Rattle.cc_parse.specs.Turns.{inits_from}
-use Rattle.cc_parse.proofs.InitTurns.{inits_is, after_push, value_fails, last_one, next_fails, goes_on}
-use Rattle.cc_parse.proofs.declaration.inits.Goals as goal
+use Rattle.cc_parse_files.specs.Turns.{inits_from}
+use Rattle.cc_parse_files.proofs.InitTurns.{inits_is, after_push, value_fails, last_one, next_fails, goes_on}
+use Rattle.cc_parse_files.proofs.declaration.inits.Goals as goal
 
 pub loop-turn-init : goal.loop-turn-init
 loop-turn-init c =

@@ -5,7 +5,7 @@ use Rattle.cc_syntax.specs.Views.{view_value}
 use Rattle.cc_parse_tokens.specs.Turns.{enclosed_from}
 use Rattle.cc_parse_tokens.proofs.ByTurns.{enclosed_by_is}
 use Rattle.cc_parse_tokens.proofs.Turns.{one_more, no_more}
-use Rattle.cc_parse.proofs.initialiser.+value.Goals as goal
+use Rattle.cc_parse_files.proofs.initialiser.+value.Goals as goal
 
 pub values-returns-in_err-value : goal.values-returns-in_err-value
 unfolding enclosed_from

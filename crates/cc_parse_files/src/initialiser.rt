@@ -3,7 +3,7 @@ ghost use Rattle.std.specs.Prelude.{◌≡◌, length};
 ghost use Rattle.cc_grammar.specs.Reading as spec;
 ghost use Rattle.cc_syntax.specs.Views.{view, view_value};
 ghost use Rattle.cc_parse_tokens.specs.Gives.{Gives};
-ghost use Rattle.cc_parse.specs.Views.{braced};
+ghost use Rattle.cc_parse_files.specs.Views.{braced};
 
 use cc_lex::Punct;
 use cc_parse_expr::expr;

@@ -9,7 +9,7 @@ use Rattle.cc_grammar.specs.Names.{Names, after_declarator, after_inits}
 use Rattle.cc_grammar.specs.Outcomes.{Outcome, Parser, and_then, ◌>>=◌, pure, ◌<$>◌}
 use Rattle.cc_grammar.specs.Reading.{branch, where_next, skipping, given, readers, with_name, inits_behind, inits}
 use Rattle.cc_parse_tokens.proofs.ByTurns.{before, nothing_before, one_more}
-use Rattle.cc_parse.specs.Turns.{inits_from}
+use Rattle.cc_parse_files.specs.Turns.{inits_from}
 
 abbrev Same : ℕ → Bool → ℕ → Type 0
 Same d typedef turns = (names : Names) (e : DeclTree Spot) (found : List (InitTree Spot)) (ts : List Token) → inits_from d typedef turns names e found ts ≡ before found (inits_behind d typedef turns names e ts)

@@ -3,7 +3,7 @@ use Rattle.std.proofs.lemmas.Result.{err_from_is_err_and}
 use Rattle.cc_lex.specs.declared.punct.Punct.TheVariants as punct
 use Rattle.cc_grammar.specs.Classes.{next_is, skip}
 use Rattle.cc_grammar.specs.Reading as spec
-use Rattle.cc_parse.proofs.declaration.given.Goals as goal
+use Rattle.cc_parse_files.proofs.declaration.given.Goals as goal
 
 pub returns-in_err-value : goal.returns-in_err-value
 returns-in_err-value c =

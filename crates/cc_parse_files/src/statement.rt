@@ -4,13 +4,13 @@ ghost use Rattle.cc_lex.specs.declared.token.Token.{Token as TokenValue};
 ghost use Rattle.cc_syntax.specs.Trees as tree;
 ghost use Rattle.cc_grammar.specs.Outcomes.{◌<$>◌};
 ghost use Rattle.cc_grammar.specs.Names.{Names};
-ghost use Rattle.cc_parse.specs.Parts as parts;
+ghost use Rattle.cc_parse_files.specs.Parts as parts;
 ghost use Rattle.cc_grammar.specs.Classes as grammar;
 ghost use Rattle.cc_grammar.specs.Names as typedefs;
 ghost use Rattle.cc_grammar.specs.Reading as spec;
 ghost use Rattle.cc_syntax.specs.Views.{view, view_stmt, view_block, view_item, view_start};
 ghost use Rattle.cc_parse_tokens.specs.Gives.{Gives};
-ghost use Rattle.cc_parse.specs.Nests.{NestsStmt};
+ghost use Rattle.cc_parse_files.specs.Nests.{NestsStmt};
 
 use crate::declaration::declaration;
 use cc_lex::{Keyword, Punct};

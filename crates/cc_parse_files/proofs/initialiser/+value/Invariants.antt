@@ -2,7 +2,7 @@ use Rattle.std.proofs.Common.{◌≡◌, ◌-◌, ◌+◌, ◌*◌, length, map}
 use Rattle.cc_grammar.specs.Reading as spec
 use Rattle.cc_syntax.specs.Views.{view_value}
 use Rattle.cc_parse_tokens.specs.Turns.{enclosed_from}
-use Rattle.cc_parse.proofs.initialiser.+value.Given as goal
+use Rattle.cc_parse_files.proofs.initialiser.+value.Given as goal
 
 abbrev pub decreases-value : goal.decreases-value
 decreases-value l = 2 * l.depth
