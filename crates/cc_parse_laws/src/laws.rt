@@ -6,7 +6,7 @@ ghost use Rattle.cc_syntax.specs.Trees.{ExternalTree};
 ghost use Rattle.cc_grammar.specs.Outlines.{Orderly, Spells, WellFormed, limit};
 ghost use Rattle.cc_grammar.specs.Reading.{reading};
 
-/// What is read of tokens within the limit of depth is a file of the grammar that they spell.
+/// What is read of tokens to their end, within the limit of depth, is a file of the grammar that they spell.
 pub fn what_is_read_is_spelled()
     ensures { (tokens : List TokenValue) (f : List (ExternalTree SpotValue)) → reading limit tokens ≡ Ok (f, []) → WellFormed tokens f }
 {}

@@ -17,7 +17,7 @@ use std::marker::Model;
 
 /// The tokens that are left. A contract sees them as a list.
 ///
-/// A reader that refuses a token for its depth alone marks it, so that the fault can tell so.
+/// A reader that refuses a token for its depth alone marks it, so that the fault can tell so. No clause speaks of marks.
 #[derive(Drop)]
 pub struct Cursor<'a> {
     rest: &'a [Token],
