@@ -1,5 +1,5 @@
 -- The loop of the code beside the recursion of the definition: what goes on behind an expression makes it deeper.
-use Rattle.std.proofs.Common.{◌≡◌, ◌≤◌, ◌<◌, ◌+◌, ◌-◌, refl, ℕ, zero, suc, max, Bool, true, false, List, Result, Ok, Err, arith, sym, ap, ◌∙◌, ◌&&◌, nat_le, nat_lt}
+use Rattle.std.proofs.Common.{◌≡◌, ◌≤◌, ◌<◌, ◌+◌, ◌-◌, refl, ℕ, zero, suc, true, false, List, Ok, Err, arith, sym, ap, ◌∙◌, ◌&&◌, nat_le, nat_lt}
 use Rattle.std.proofs.lemmas.Bool.{and_parts, ltb-true}
 use Rattle.cc_tree.specs.declared.place.Spot.{Spot}
 use Rattle.cc_lex.specs.declared.token.Token.{Token}
@@ -12,7 +12,7 @@ use Rattle.cc_grammar.specs.Levels.{level, binary_level}
 use Rattle.cc_grammar.specs.Names.{Names}
 use Rattle.cc_grammar.specs.Outlines.{begins}
 use Rattle.cc_grammar.specs.Classes.{skip, spot, Tail, goes_binary, goes_assign, goes_question, goes_comma, goes_call, goes_index, goes_dot, goes_arrow, goes_step, ends_here, tail, binds, left_level}
-use Rattle.cc_grammar.specs.Outcomes.{Outcome, Parser, and_then, take, ◌>>=◌, ◌>>◌, pure, ◌<$>◌}
+use Rattle.cc_grammar.specs.Outcomes.{Outcome, Parser, and_then, take, ◌>>◌, pure, ◌<$>◌}
 use Rattle.cc_grammar.specs.Reading.{Inner, id, arguments, go_on, goes_on, climb}
 
 -- the tree that an outcome has, if it has one, is deeper than the number
