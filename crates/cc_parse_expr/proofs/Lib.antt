@@ -1,3 +1,5 @@
+pub mod Beginnings
+pub mod Climbing
 pub mod Counting
 pub mod EnclosedLoops
 pub mod InnerReaders

@@ -6,11 +6,15 @@
 #![tactic(auto)]
 
 mod declarators;
+mod expression;
 mod grammar;
 mod identifier;
 mod mode;
+mod prefix;
 mod readers;
+mod shape;
 mod specifier;
+mod tails;
 mod type_name;
 
 pub use mode::Mode;
