@@ -5,6 +5,8 @@
 //! reader of the same name in `cc_grammar`'s definitions of reading gives.
 #![tactic(auto)]
 
+#[cfg(test)]
+mod declarator_tests;
 mod declarators;
 mod expression;
 mod grammar;
