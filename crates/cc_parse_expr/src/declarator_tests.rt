@@ -12,7 +12,7 @@ use std::test::Fail;
 
 // How reading ends: it reads or refuses, with so many tokens left, the first of which is marked or not.
 #[derive(Clone, Copy, Debug, PartialEq, Eq)]
-enum End {
+pub enum End {
     Reads(usize, bool),
     Refuses(usize, bool),
 }
@@ -72,7 +72,7 @@ fn copied_kind(alloc: Global, kind: &TokenKind) -> Result<TokenKind, Fault> {
 }
 
 // The tokens of a text, and for one that has none no tokens.
-fn tokens_of(alloc: Global, text: &[u8]) -> Result<Items<Token>, Fault> {
+pub fn tokens_of(alloc: Global, text: &[u8]) -> Result<Items<Token>, Fault> {
     let mut tokens = Items::new(alloc);
     if text.len() > 1048576 {
         return Ok(tokens);
@@ -89,13 +89,13 @@ fn tokens_of(alloc: Global, text: &[u8]) -> Result<Items<Token>, Fault> {
     Ok(tokens)
 }
 
-fn names(alloc: Global) -> Result<TypedefNames, Fault> {
+pub fn names(alloc: Global) -> Result<TypedefNames, Fault> {
     let mut names = TypedefNames::new(alloc);
     names.add(alloc, "T")?;
     Ok(names)
 }
 
-fn end_of(reads: bool, cursor: &Cursor<'_>) -> End {
+pub fn end_of(reads: bool, cursor: &Cursor<'_>) -> End {
     if reads {
         End::Reads(cursor.len(), cursor.is_marked())
     } else {

@@ -9,6 +9,8 @@
 mod declarator_tests;
 mod declarators;
 mod expression;
+#[cfg(test)]
+mod expression_tests;
 mod grammar;
 mod identifier;
 mod mode;
