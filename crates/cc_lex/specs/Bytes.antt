@@ -1,7 +1,7 @@
 -- Classes of bytes, and runs of them.
 use Rattle.std.specs.Prelude.{ℕ, suc, Bool, true, not, ◌&&◌, ◌||◌, ◌==◌, nat_le, if◌then◌else◌, List, [], ◌∷◌}
 
--- the first byte, or 0 where there is none, which is of no class
+-- the first byte, or 0 where there is none: 0 is of no class but that of a line's bytes
 abbrev pub first : List ℕ → ℕ
 first [] = 0
 first (b ∷ z) = b

@@ -4,9 +4,8 @@ use Rattle.std.specs.Prelude.{ℕ, Bool, true, false, not, ◌&&◌, ◌||◌, �
 use Rattle.std.specs.List.{list_any}
 use Rattle.cc_lex.specs.Bytes.{first, second, is_digit, is_letter, is_quote, in_name, in_number, chain}
 use Rattle.cc_lex.specs.declared.keyword.Keyword.{Keyword}
-use Rattle.cc_lex.specs.declared.keyword.TheConstants.{KEYWORDS}
 use Rattle.cc_lex.specs.declared.punct.Punct.{Punct}
-use Rattle.cc_lex.specs.declared.punct.TheConstants.{PUNCTS, DIGRAPHS}
+use Rattle.cc_lex.specs.Words.{keyword_table, punct_table, digraph_table}
 
 -- the two lists have the same bytes
 abbrev pub same : List ℕ → List ℕ → Bool
@@ -15,16 +14,15 @@ same [] (b ∷ z) = false
 same (a ∷ y) [] = false
 same (a ∷ y) (b ∷ z) = a == b && same y z
 
--- the spellings of the 44 keywords, the 46 punctuators and the 5 digraph tokens: the tables of `src/keyword.rt` and
--- `src/punct.rt`
+-- the spellings of the 44 keywords, the 46 punctuators and the 5 digraphs
 unfoldable pub keywords : List (List ℕ × Keyword)
-keywords = map (λ k. (k.0.now, k.1)) KEYWORDS
+keywords = keyword_table
 
 unfoldable pub puncts : List (List ℕ × Punct)
-puncts = map (λ p. (p.0.now, p.1)) PUNCTS
+puncts = punct_table
 
 unfoldable pub digraphs : List (List ℕ)
-digraphs = map (λ d. d.now) DIGRAPHS
+digraphs = digraph_table
 
 -- the spellings of a table
 abbrev pub spellings_of : {A : Type 0} → List (List ℕ × A) → List (List ℕ)

@@ -23,7 +23,7 @@ pub fn each_token_has_the_spot_of_its_offset()
     ensures { (bytes : List ℕ) → (tokens : List Token) → Cut bytes tokens → (t : Token) → Contains tokens t → (offset : ℕ) × StandsAt bytes offset t }
 {}
 
-/// The bytes before the place at which a fault is judged have a cut of their own, into the same pieces.
+/// The bytes before the place at which a fault is judged have a cut of their own, with the tokens of these pieces.
 pub fn the_bytes_before_a_fault_have_a_cut()
     ensures { (bytes : List ℕ) → (pieces : List Piece) → (rest : List ℕ) → Cuts true pieces bytes rest → IsClean (spell pieces) → Cut (spell pieces) (tokens_from start pieces) }
 {}

@@ -35,14 +35,16 @@ const LONGEST: [(&[u8], &str); 6] = [
 ];
 
 /// Numbers that are no integer constant, or fit no type.
-const NO_CONSTANTS: [(&[u8], &str); 14] = [
+const NO_CONSTANTS: [(&[u8], &str); 17] = [
     (b"1e+5", "L6 at 0"),
     (b"0x1p-3", "L6 at 0"),
     (b"0xe+1", "L6 at 0"),
     (b"a.5", "L6 at 1"),
+    (b"....5", "L6 at 3"),
     (b"1..2", "L6 at 0"),
     (b"08", "L6 at 0"),
     (b"0x", "L6 at 0"),
+    (b"0xu", "L6 at 0"),
     (b"0b1", "L6 at 0"),
     (b"12ab", "L6 at 0"),
     (b"1lL", "L6 at 0"),
@@ -50,10 +52,11 @@ const NO_CONSTANTS: [(&[u8], &str); 14] = [
     (b"1uu", "L6 at 0"),
     (b"9223372036854775808", "L7 at 0"),
     (b"0x10000000000000000", "L7 at 0"),
+    (b"02000000000000000000000", "L7 at 0"),
 ];
 
 /// Integer constants.
-const CONSTANTS: [(&[u8], &str); 12] = [
+const CONSTANTS: [(&[u8], &str); 13] = [
     (b"0x1f+1", "1:1 31 Int, 1:5 Plus, 1:6 1 Int"),
     (b"1uLL", "1:1 1 ULLong"),
     (b"1LLU", "1:1 1 ULLong"),
@@ -73,6 +76,7 @@ const CONSTANTS: [(&[u8], &str); 12] = [
         b"0x8000000000000000 0x8000000000000000l 0xffffffffffffffffLL",
         "1:1 9223372036854775808 ULong, 1:20 9223372036854775808 ULong, 1:40 18446744073709551615 ULLong",
     ),
+    (b"01777777777777777777777", "1:1 18446744073709551615 ULong"),
     (b"1l 1ll", "1:1 1 Long, 1:4 1 LLong"),
     (
         b"9223372036854775807 18446744073709551615u",
@@ -81,7 +85,7 @@ const CONSTANTS: [(&[u8], &str); 12] = [
 ];
 
 /// Character constants.
-const CHARACTERS: [(&[u8], &str); 17] = [
+const CHARACTERS: [(&[u8], &str); 4] = [
     (
         b"'a' '\\0' '\"' '\\''",
         "1:1 '97', 1:5 '0', 1:10 '34', 1:14 '39'",
@@ -98,8 +102,13 @@ const CHARACTERS: [(&[u8], &str); 17] = [
         b"'\\?' '\\\\' '\xe9' '\\1'",
         "1:1 '63', 1:6 '92', 1:11 '-23', 1:15 '1'",
     ),
+];
+
+/// Faults of character constants.
+const NO_CHARACTERS: [(&[u8], &str); 14] = [
     (b"'ab'", "L5 at 0"),
     (b"''", "L5 at 0"),
+    (b"'''", "L5 at 0"),
     (b"'\\08'", "L5 at 0"),
     (b"'\\1234'", "L5 at 0"),
     (b"'\\q'", "L4 at 1"),
@@ -114,7 +123,7 @@ const CHARACTERS: [(&[u8], &str); 17] = [
 ];
 
 /// String literals.
-const STRINGS: [(&[u8], &str); 10] = [
+const STRINGS: [(&[u8], &str); 11] = [
     (
         b"\"\" \"a\\x41\\101'\\\"\" \"\xff\"",
         "1:1 [], 1:4 [97, 65, 65, 39, 34], 1:19 [255]",
@@ -123,6 +132,7 @@ const STRINGS: [(&[u8], &str); 10] = [
     (b"\"\\400\"", "L4 at 1"),
     (b"x = \"ab\\xfff\"", "L4 at 7"),
     (b"\"a\\qb\\x\"", "L4 at 2"),
+    (b"\"\\\r\"", "L4 at 1"),
     (b"f(\"ab\n\")", "L3 at 2"),
     (b"\"ab", "L3 at 0"),
     (b"\"a\\\n\"", "L3 at 0"),
@@ -142,7 +152,7 @@ const PREFIXES: [(&[u8], &str); 7] = [
 ];
 
 /// Comments.
-const COMMENTS: [(&[u8], &str); 6] = [
+const COMMENTS: [(&[u8], &str); 7] = [
     (
         b"\"/* */\" \"//\"",
         "1:1 [47, 42, 32, 42, 47], 1:9 [47, 47]",
@@ -151,20 +161,25 @@ const COMMENTS: [(&[u8], &str); 6] = [
     (b"/* \xff ' \" @ */;", "1:14 Semicolon"),
     (b"// \xff\n;", "2:1 Semicolon"),
     (b"/*/", "L2 at 0"),
+    (b"a //* b", "1:1 a"),
     (b"a/ *b", "1:1 a, 1:2 Slash, 1:4 Star, 1:5 b"),
 ];
 
 /// Skipped lines.
-const SKIPPED_LINES: [(&[u8], &str); 11] = [
+const SKIPPED_LINES: [(&[u8], &str); 15] = [
     (b"# 1 \"a.c\"\n;", "2:1 Semicolon"),
     (b" \t#\t pragma once ' @\n;", "2:1 Semicolon"),
     (b"#line 5\n#1x\n#pragma\n;", "4:1 Semicolon"),
     (b"#liner", "L9 at 0"),
+    (b"#line08", "L9 at 0"),
     (b"#pragma_once", "L9 at 0"),
     (b"a # 1", "L9 at 2"),
     (b"/* */ # 1", "L9 at 6"),
     (b"\x0b# 1", "L9 at 1"),
+    (b"\x0c# 1", "L9 at 1"),
+    (b"\r# 1", "L9 at 1"),
     (b"#", "L9 at 0"),
+    (b"#\n1", "L9 at 0"),
     (b"# include", "L9 at 0"),
     (b"#pragma /*\n;", "2:1 Semicolon"),
 ];
@@ -197,19 +212,22 @@ const DIGRAPHS: [(&[u8], &str); 5] = [
 ];
 
 /// Stray bytes.
-const STRAY_BYTES: [(&[u8], &str); 5] = [
+const STRAY_BYTES: [(&[u8], &str); 8] = [
     (b"a\x80", "L1 at 1"),
     (b"\\ a", "L1 at 0"),
     (b"a\\\r", "L1 at 1"),
+    (b"\\\ra\n", "L1 at 0"),
+    (b"a\\", "L1 at 1"),
     (b"a\0", "L1 at 1"),
     (b"$", "L1 at 0"),
+    (b"a $", "L1 at 2"),
 ];
 
 /// White bytes, lines and columns.
 const PLACES: [(&[u8], &str); 1] = [(b"\ta \x0b\x0c\r\n  b\n\nc", "1:2 a, 2:3 b, 4:1 c")];
 
-/// What the profile doesn't have.
-const BANNED: [(&[u8], &str); 12] = [
+/// The first token that the profile doesn't have.
+const BANNED: [(&[u8], &str); 4] = [
     (
         b"asm x; goto y;",
         "1:1 asm, 1:5 x, 1:6 Semicolon, 1:8 Goto, 1:13 y, 1:14 Semicolon, C14 at token 0",
@@ -226,14 +244,162 @@ const BANNED: [(&[u8], &str); 12] = [
         b"Float __asm__x floats __Bool",
         "1:1 Float, 1:7 __asm__x, 1:16 floats, 1:23 __Bool",
     ),
-    (b"_Imaginary", "1:1 Imaginary, C1 at token 0"),
-    (b"restrict", "1:1 Restrict, C5 at token 0"),
-    (b"auto", "1:1 Auto, C6 at token 0"),
-    (b"_Thread_local", "1:1 ThreadLocal, C8 at token 0"),
-    (b"_Alignof", "1:1 Alignof, C9 at token 0"),
-    (b"_Generic", "1:1 Generic, C10 at token 0"),
-    (b"_Noreturn", "1:1 Noreturn, C11 at token 0"),
-    (b"__asm__", "1:1 __asm__, C14 at token 0"),
+];
+
+// Each row is a word and the rule that it meets; the last is all the other keywords.
+
+const BANNED_C1_TO_C8: [(&[u8], u8); 12] = [
+    (b"float", 1),
+    (b"double", 1),
+    (b"_Complex", 1),
+    (b"_Imaginary", 1),
+    (b"union", 2),
+    (b"goto", 3),
+    (b"volatile", 4),
+    (b"restrict", 5),
+    (b"register", 6),
+    (b"auto", 6),
+    (b"_Atomic", 7),
+    (b"_Thread_local", 8),
+];
+
+const BANNED_C9_TO_C14: [(&[u8], u8); 11] = [
+    (b"_Alignas", 9),
+    (b"_Alignof", 9),
+    (b"_Generic", 10),
+    (b"_Noreturn", 11),
+    (b"_Static_assert", 12),
+    (b"...", 13),
+    (b"asm", 14),
+    (b"__asm", 14),
+    (b"__asm__", 14),
+    (b"__attribute__", 14),
+    (
+        b"break case char const continue default do else enum extern for if inline int long return short signed sizeof static struct switch typedef unsigned void while _Bool",
+        0,
+    ),
+];
+
+// The keywords in the order of C17 6.4.1.
+
+const KEYWORDS_1: [(&[u8], Keyword); 15] = [
+    (b"auto", Keyword::Auto),
+    (b"break", Keyword::Break),
+    (b"case", Keyword::Case),
+    (b"char", Keyword::Char),
+    (b"const", Keyword::Const),
+    (b"continue", Keyword::Continue),
+    (b"default", Keyword::Default),
+    (b"do", Keyword::Do),
+    (b"double", Keyword::Double),
+    (b"else", Keyword::Else),
+    (b"enum", Keyword::Enum),
+    (b"extern", Keyword::Extern),
+    (b"float", Keyword::Float),
+    (b"for", Keyword::For),
+    (b"goto", Keyword::Goto),
+];
+
+const KEYWORDS_2: [(&[u8], Keyword); 15] = [
+    (b"if", Keyword::If),
+    (b"inline", Keyword::Inline),
+    (b"int", Keyword::Int),
+    (b"long", Keyword::Long),
+    (b"register", Keyword::Register),
+    (b"restrict", Keyword::Restrict),
+    (b"return", Keyword::Return),
+    (b"short", Keyword::Short),
+    (b"signed", Keyword::Signed),
+    (b"sizeof", Keyword::Sizeof),
+    (b"static", Keyword::Static),
+    (b"struct", Keyword::Struct),
+    (b"switch", Keyword::Switch),
+    (b"typedef", Keyword::Typedef),
+    (b"union", Keyword::Union),
+];
+
+const KEYWORDS_3: [(&[u8], Keyword); 14] = [
+    (b"unsigned", Keyword::Unsigned),
+    (b"void", Keyword::Void),
+    (b"volatile", Keyword::Volatile),
+    (b"while", Keyword::While),
+    (b"_Alignas", Keyword::Alignas),
+    (b"_Alignof", Keyword::Alignof),
+    (b"_Atomic", Keyword::Atomic),
+    (b"_Bool", Keyword::Bool),
+    (b"_Complex", Keyword::Complex),
+    (b"_Generic", Keyword::Generic),
+    (b"_Imaginary", Keyword::Imaginary),
+    (b"_Noreturn", Keyword::Noreturn),
+    (b"_Static_assert", Keyword::StaticAssert),
+    (b"_Thread_local", Keyword::ThreadLocal),
+];
+
+// The punctuators in the order of C17 6.4.6.
+
+const PUNCTUATORS_1: [(&[u8], Punct); 16] = [
+    (b"[", Punct::LeftBracket),
+    (b"]", Punct::RightBracket),
+    (b"(", Punct::LeftParen),
+    (b")", Punct::RightParen),
+    (b"{", Punct::LeftBrace),
+    (b"}", Punct::RightBrace),
+    (b".", Punct::Dot),
+    (b"->", Punct::Arrow),
+    (b"++", Punct::PlusPlus),
+    (b"--", Punct::MinusMinus),
+    (b"&", Punct::And),
+    (b"*", Punct::Star),
+    (b"+", Punct::Plus),
+    (b"-", Punct::Minus),
+    (b"~", Punct::Tilde),
+    (b"!", Punct::Not),
+];
+
+const PUNCTUATORS_2: [(&[u8], Punct); 15] = [
+    (b"/", Punct::Slash),
+    (b"%", Punct::Percent),
+    (b"<<", Punct::ShiftLeft),
+    (b">>", Punct::ShiftRight),
+    (b"<", Punct::Less),
+    (b">", Punct::Greater),
+    (b"<=", Punct::LessEqual),
+    (b">=", Punct::GreaterEqual),
+    (b"==", Punct::EqualEqual),
+    (b"!=", Punct::NotEqual),
+    (b"^", Punct::Caret),
+    (b"|", Punct::Or),
+    (b"&&", Punct::AndAnd),
+    (b"||", Punct::OrOr),
+    (b"?", Punct::Question),
+];
+
+const PUNCTUATORS_3: [(&[u8], Punct); 15] = [
+    (b":", Punct::Colon),
+    (b";", Punct::Semicolon),
+    (b"...", Punct::Ellipsis),
+    (b"=", Punct::Equal),
+    (b"*=", Punct::StarEqual),
+    (b"/=", Punct::SlashEqual),
+    (b"%=", Punct::PercentEqual),
+    (b"+=", Punct::PlusEqual),
+    (b"-=", Punct::MinusEqual),
+    (b"<<=", Punct::ShiftLeftEqual),
+    (b">>=", Punct::ShiftRightEqual),
+    (b"&=", Punct::AndEqual),
+    (b"^=", Punct::CaretEqual),
+    (b"|=", Punct::OrEqual),
+    (b",", Punct::Comma),
+];
+
+/// A text, an offset, and the line and the column there.
+const SPOTS: [(&[u8], u64, Spot); 6] = [
+    (b"", 0, Spot { line: 1, column: 1 }),
+    (b"ab", 1, Spot { line: 1, column: 2 }),
+    (b"ab", 2, Spot { line: 1, column: 3 }),
+    (b"a\nb", 1, Spot { line: 1, column: 2 }),
+    (b"a\nb", 2, Spot { line: 2, column: 1 }),
+    (b"\t\r\xe9\n\n b", 6, Spot { line: 3, column: 2 }),
 ];
 
 /// A token, as the rows write it.
@@ -284,6 +450,73 @@ fn assert_rows(rt: &impl Abort, alloc: Global, rows: &[(&[u8], &str)]) -> Result
     Ok(())
 }
 
+/// The tokens of the bytes, if they have a cut.
+fn cut(alloc: Global, bytes: &[u8]) -> Option<TokenList> {
+    if bytes.len() > 1048576 {
+        return None;
+    }
+    lex(alloc, bytes).ok()
+}
+
+/// The keyword that is the only token of the bytes.
+fn only_keyword(alloc: Global, bytes: &[u8]) -> Option<Keyword> {
+    let tokens = cut(alloc, bytes)?;
+    if tokens.len() != 1 {
+        return None;
+    }
+    match &tokens.get(0).kind {
+        TokenKind::Keyword(keyword) => Some(*keyword),
+        _ => None,
+    }
+}
+
+/// The punctuator that is the only token of the bytes.
+fn only_punct(alloc: Global, bytes: &[u8]) -> Option<Punct> {
+    let tokens = cut(alloc, bytes)?;
+    if tokens.len() != 1 {
+        return None;
+    }
+    match &tokens.get(0).kind {
+        TokenKind::Punct(punct) => Some(*punct),
+        _ => None,
+    }
+}
+
+fn assert_keywords(rt: &impl Abort, alloc: Global, rows: &[(&[u8], Keyword)]) {
+    for row in rows {
+        assert_eq!(rt; only_keyword(alloc, row.0), Some(row.1), "{:?}", row.0);
+        assert!(rt; is_keyword(row.0), "{:?}", row.0);
+    }
+}
+
+fn assert_punctuators(rt: &impl Abort, alloc: Global, rows: &[(&[u8], Punct)]) {
+    for row in rows {
+        assert_eq!(rt; only_punct(alloc, row.0), Some(row.1), "{:?}", row.0);
+    }
+}
+
+/// Asserts that the first token meets the rule, or with 0 that none meets one.
+fn assert_banned(rt: &impl Abort, alloc: Global, rows: &[(&[u8], u8)]) {
+    for row in rows {
+        let tokens = cut(alloc, row.0);
+        assert!(rt; tokens.is_some(), "{:?}", row.0);
+        let found = match tokens {
+            None => None,
+            Some(tokens) => banned(&tokens),
+        };
+        let expected = if row.1 == 0 { None } else { Some((0, row.1)) };
+        assert_eq!(rt; found, expected, "{:?}", row.0);
+    }
+}
+
+fn assert_spots(rt: &impl Abort, rows: &[(&[u8], u64, Spot)]) {
+    for row in rows {
+        let is_within = row.0.len() <= 1048576 && row.1 <= row.0.len() as u64;
+        assert!(rt; is_within, "{:?}", row.0);
+        assert_eq!(rt; spot_of(row.0, row.1), row.2, "{:?}", row.0);
+    }
+}
+
 #[test]
 fn cuts_texts(rt: HostRuntime) -> Result<(), Fail> {
     assert_rows(&rt, rt.alloc(), &FIRST_FAULTS)?;
@@ -291,6 +524,7 @@ fn cuts_texts(rt: HostRuntime) -> Result<(), Fail> {
     assert_rows(&rt, rt.alloc(), &NO_CONSTANTS)?;
     assert_rows(&rt, rt.alloc(), &CONSTANTS)?;
     assert_rows(&rt, rt.alloc(), &CHARACTERS)?;
+    assert_rows(&rt, rt.alloc(), &NO_CHARACTERS)?;
     assert_rows(&rt, rt.alloc(), &STRINGS)?;
     assert_rows(&rt, rt.alloc(), &PREFIXES)?;
     assert_rows(&rt, rt.alloc(), &COMMENTS)?;
@@ -301,4 +535,23 @@ fn cuts_texts(rt: HostRuntime) -> Result<(), Fail> {
     assert_rows(&rt, rt.alloc(), &PLACES)?;
     assert_rows(&rt, rt.alloc(), &BANNED)?;
     Ok(())
+}
+
+#[test]
+fn knows_each_word(rt: HostRuntime) {
+    assert_keywords(&rt, rt.alloc(), &KEYWORDS_1);
+    assert_keywords(&rt, rt.alloc(), &KEYWORDS_2);
+    assert_keywords(&rt, rt.alloc(), &KEYWORDS_3);
+    assert!(rt; !is_keyword(b"Int"));
+    assert!(rt; !is_keyword(b""));
+    assert_punctuators(&rt, rt.alloc(), &PUNCTUATORS_1);
+    assert_punctuators(&rt, rt.alloc(), &PUNCTUATORS_2);
+    assert_punctuators(&rt, rt.alloc(), &PUNCTUATORS_3);
+    assert_banned(&rt, rt.alloc(), &BANNED_C1_TO_C8);
+    assert_banned(&rt, rt.alloc(), &BANNED_C9_TO_C14);
+}
+
+#[test]
+fn counts_lines_and_columns(rt: HostRuntime) {
+    assert_spots(&rt, &SPOTS);
 }

@@ -1,21 +1,18 @@
 -- How the reader of expressions comes to a tree with tokens still to be looked at.
-use Rattle.std.proofs.Common.{◌≡◌, ◌≤◌, ◌<◌, ◌+◌, refl, ℕ, zero, suc, max, Bool, true, false, List, [], ◌∷◌, length, Option, Some, None, Result, Ok, Err, arith, sym, ap, ◌∙◌, subst}
-use Rattle.std.specs.Prelude.{◌&&◌, ◌==◌, nat_le, nat_lt, if◌then◌else◌}
+use Rattle.std.proofs.Common.{◌≡◌, ◌≤◌, ◌<◌, ◌+◌, refl, ℕ, zero, suc, true, false, List, Ok, arith, ap, ◌∙◌}
+use Rattle.std.specs.Prelude.{◌==◌}
 use Rattle.std.proofs.lemmas.Bool.{lt-ltb, le-leb, lt-leb, ne_eqb}
 use Rattle.cc_tree.specs.declared.place.Spot.{Spot}
 use Rattle.cc_lex.specs.declared.token.Token.{Token}
-use Rattle.cc_lex.specs.declared.token.TokenKind.{TokenKind}
-use Rattle.cc_lex.specs.declared.punct.Punct.{Punct}
 use Rattle.cc_syntax.specs.Trees.{ExprTree}
 use Rattle.cc_syntax.specs.Depth.{expr_depth}
 use Rattle.cc_grammar.specs.Levels.{level}
 use Rattle.cc_grammar.specs.Names.{Names}
-use Rattle.cc_grammar.specs.Outline.{Outline, end, token, part, depth, Stands}
 use Rattle.cc_grammar.specs.Outlines as o
-use Rattle.cc_grammar.specs.Classes.{next_is, skip, spot, start, Start, tail, Tail, binds, left_level}
+use Rattle.cc_grammar.specs.Classes.{skip, spot, start, tail, Tail, binds, left_level}
 use Rattle.cc_grammar.specs.Outcomes.{Outcome, Parser, and_then, pure, refuse}
-use Rattle.cc_grammar.specs.Reading.{Inner, prefix, climb, go_on, goes_on, expression, branch, where_next}
-use Rattle.cc_parse_laws.proofs.Spans.{Inside, Reads, reads_depth}
+use Rattle.cc_grammar.specs.Reading.{Inner, prefix, climb, go_on, goes_on, expression}
+use Rattle.cc_parse_laws.proofs.Spans.{Reads, reads_depth}
 use Rattle.cc_parse_laws.proofs.Steps.{branch_true, branch_false}
 use Rattle.cc_parse_laws.proofs.Depths as depths
 use Rattle.cc_parse_laws.proofs.Edges.{edge}
@@ -57,9 +54,9 @@ module _ (names : Names) (inner : Inner) (d : ℕ) where
         turns = turns;
         enough = omega (arith, enough, deeper);
         same =
-          same
-          ∙ branch_true (goes_on names inner (suc d) least a (tail m)) (λ us. and_then (go_on names inner (suc d) a (tail us) (spot us) (skip us)) (climb names inner (suc d) least turns)) (pure a) m (goes_on_is names inner (suc d) least a (tail m) p q h)
-          ∙ ap (λ z. and_then z (climb names inner (suc d) least turns)) read;
+            same
+            ∙ branch_true (goes_on names inner (suc d) least a (tail m)) (λ us. and_then (go_on names inner (suc d) a (tail us) (spot us) (skip us)) (climb names inner (suc d) least turns)) (pure a) m (goes_on_is names inner (suc d) least a (tail m) p q h)
+            ∙ ap (λ z. and_then z (climb names inner (suc d) least turns)) read;
       }
 
   pub climbed : (least : ℕ) (ts : List Token) (a e : ExprTree Spot) (m r : List Token) → Climbs least ts a m
@@ -73,8 +70,8 @@ module _ (names : Names) (inner : Inner) (d : ℕ) where
         turns = suc d;
         enough = omega arith;
         same =
-          branch_false (suc d == 0) refuse (λ us. and_then (prefix names inner (suc d) least (start us) (spot us) us) (climb names inner (suc d) least (suc d))) ts (not_zero d)
-          ∙ ap (λ z. and_then z (climb names inner (suc d) least (suc d))) read;
+            branch_false (suc d == 0) refuse (λ us. and_then (prefix names inner (suc d) least (start us) (spot us) us) (climb names inner (suc d) least (suc d))) ts (not_zero d)
+            ∙ ap (λ z. and_then z (climb names inner (suc d) least (suc d))) read;
       }
 
   pub ends_at : (least turns : ℕ) (e : ExprTree Spot) (r : List Token) → Ends least r → climb names inner (suc d) least turns e r ≡ Ok (e, r)

@@ -1,20 +1,12 @@
 -- Each expression is read back, before a token that goes on with nothing of its level.
-use Rattle.std.proofs.Common.{◌≡◌, ◌≤◌, ◌<◌, ◌+◌, refl, ℕ, ℤ, zero, suc, max, Bool, true, false, List, [], ◌∷◌, length, Option, Some, None, Result, Ok, Err, arith, sym, ap, ◌∙◌, subst}
-use Rattle.std.specs.Prelude.{◌&&◌, ◌==◌, nat_le, if◌then◌else◌}
-use Rattle.std.proofs.lemmas.Bool.{le-leb, ne_eqb}
-use Rattle.cc_arith.specs.declared.kind.IntKind.{IntKind}
+use Rattle.std.proofs.Common.{◌≡◌, ◌≤◌, ◌<◌, ◌+◌, refl, ℕ, suc, true, false, List, Option, Some, None, Ok, arith, sym, ap, ◌∙◌, subst}
 use Rattle.cc_arith.specs.declared.binary_operator.IntOp.{IntOp}
 use Rattle.cc_arith.specs.declared.binary_operator.IntOp.TheVariants as int
-use Rattle.cc_arith.specs.declared.unary_operator.IntUnary.TheVariants as sign
 use Rattle.cc_tree.specs.declared.place.Spot.{Spot}
 use Rattle.cc_lex.specs.declared.token.Token.{Token}
-use Rattle.cc_lex.specs.declared.token.TokenKind.{TokenKind}
 use Rattle.cc_lex.specs.declared.token.TokenKind.TheVariants as kind
-use Rattle.cc_lex.specs.declared.keyword.Keyword.TheVariants as k
 use Rattle.cc_lex.specs.declared.punct.Punct.{Punct}
 use Rattle.cc_lex.specs.declared.punct.Punct.TheVariants as p
-use Rattle.cc_syntax.specs.declared.operator.UnaryOp.{UnaryOp}
-use Rattle.cc_syntax.specs.declared.operator.UnaryOp.TheVariants as u
 use Rattle.cc_syntax.specs.declared.operator.BinaryOp.{BinaryOp}
 use Rattle.cc_syntax.specs.declared.operator.BinaryOp.TheVariants as b
 use Rattle.cc_syntax.specs.declared.operator.AssignOp.{AssignOp}
@@ -22,23 +14,22 @@ use Rattle.cc_syntax.specs.declared.operator.AssignOp.TheVariants as a
 use Rattle.cc_syntax.specs.declared.operator.StepOp.{StepOp}
 use Rattle.cc_syntax.specs.declared.operator.StepOp.TheVariants as s
 use Rattle.cc_syntax.specs.declared.operator.Side.TheVariants as side
-use Rattle.cc_syntax.specs.Trees.{Name, ExprTree, name, integer, character, string, paren, unary, binary, assign, step, choice, comma, call, member, arrow, index, cast, size_expr, size_type, ExprTrees, TypeTree}
+use Rattle.cc_syntax.specs.Trees.{Name, ExprTree, name, integer, character, string, paren, unary, binary, assign, step, choice, comma, call, member, arrow, index, cast, size_expr, size_type, ExprTrees}
 use Rattle.cc_syntax.specs.Views.{gathered}
 use Rattle.cc_syntax.specs.Depth.{expr_depth}
-use Rattle.cc_grammar.specs.Levels.{level, binary_level, int_level, int_sign, unary_sign, step_sign, binary_sign, assign_sign}
+use Rattle.cc_grammar.specs.Levels.{level, binary_level, int_sign, step_sign, binary_sign, assign_sign}
 use Rattle.cc_grammar.specs.Names.{Names, is_type}
-use Rattle.cc_grammar.specs.Outline.{Outline, end, token, part, depth, Stands}
+use Rattle.cc_grammar.specs.Outline.{Outline, end, token}
 use Rattle.cc_grammar.specs.Outlines as o
-use Rattle.cc_grammar.specs.Classes.{next_is, skip, spot, start, start_kind, start_sign, Start, begins_name, begins_integer, begins_character, begins_string, begins_paren, begins_unary, begins_step, begins_sizeof, begins_nothing, tail, tail_kind, tail_sign, Tail, goes_binary, goes_assign, goes_question, goes_comma, goes_call, goes_index, goes_dot, goes_arrow, goes_step, ends_here, binds, left_level, next_literal, literal, starts_spec}
-use Rattle.cc_grammar.specs.Outcomes.{Outcome, Parser, and_then, pure, refuse, take, ◌>>=◌, ◌>>◌, ◌<$>◌}
-use Rattle.cc_grammar.specs.Reading.{Inner, Mode, without_name, prefix, go_on, expression, where_next, skipping, literal_by, is_literal, literals, repeated, typed, arguments, id}
-use Rattle.cc_parse_laws.proofs.Spans.{Inside, Reads}
-use Rattle.cc_parse_laws.proofs.Steps.{next_token, reads_next, reads_take, branch_true, branch_false, reads_length}
-use Rattle.cc_parse_laws.proofs.Lists.{Span, Again, Following, Shorter, repeated_again}
-use Rattle.cc_parse_laws.proofs.Peeks.{after, at_token, sign_ends}
-use Rattle.cc_parse_laws.proofs.Firsts.{inside_sinks, and_left, and_right, and_both, first_operand, no_type_ahead, op_most}
-use Rattle.cc_parse_laws.proofs.Edges.{edge, edge_above, edge_postfix, edge_least, op_least, ends_more, ends_prefix}
-use Rattle.cc_parse_laws.proofs.Climbs.{Climbs, IsRead, bound, mapped, done, rest_is, begun, climbed, ends_at, left_depth}
+use Rattle.cc_grammar.specs.Classes.{skip, spot, tail, tail_kind, tail_sign, Tail, goes_binary, goes_assign, goes_question, goes_comma, goes_call, goes_index, goes_dot, goes_arrow, goes_step, binds, left_level, next_literal, literal}
+use Rattle.cc_grammar.specs.Outcomes.{and_then, take}
+use Rattle.cc_grammar.specs.Reading.{Inner, go_on, expression, arguments, id}
+use Rattle.cc_parse_laws.proofs.Spans.{Reads}
+use Rattle.cc_parse_laws.proofs.Steps.{next_token, reads_next, reads_take}
+use Rattle.cc_parse_laws.proofs.Peeks.{at_token, sign_ends}
+use Rattle.cc_parse_laws.proofs.Firsts.{inside_sinks, op_most}
+use Rattle.cc_parse_laws.proofs.Edges.{edge, edge_above, edge_postfix, edge_least, op_least, ends_more}
+use Rattle.cc_parse_laws.proofs.Climbs.{Climbs, IsRead, bound, mapped, done, rest_is, climbed, ends_at, left_depth}
 use Rattle.cc_parse_laws.proofs.CompleteTypes.{id_again, arguments_again}
 use Rattle.cc_parse_laws.proofs.CompletePrefixes.{close, read_name, read_integer, read_character, read_string, read_paren, read_unary, read_before, read_cast, read_size_expr, read_size_type}
 use Rattle.cc_parse_laws.proofs.Listed as listed

@@ -1,6 +1,6 @@
 -- Expressions that begin with a token of their own are read back.
-use Rattle.std.proofs.Common.{◌≡◌, ◌≤◌, ◌<◌, ◌+◌, refl, ℕ, ℤ, zero, suc, max, Bool, true, false, List, [], ◌∷◌, length, Option, Some, None, Result, Ok, Err, arith, sym, ap, ◌∙◌, subst}
-use Rattle.std.specs.Prelude.{◌&&◌, ◌==◌, nat_le, if◌then◌else◌}
+use Rattle.std.proofs.Common.{◌≡◌, refl, ℕ, ℤ, zero, suc, Bool, true, false, List, [], ◌∷◌, Option, Some, None, Ok, arith, ap, ◌∙◌, subst}
+use Rattle.std.specs.Prelude.{◌&&◌, ◌==◌, nat_le}
 use Rattle.std.proofs.lemmas.Bool.{le-leb, ne_eqb}
 use Rattle.cc_arith.specs.declared.kind.IntKind.{IntKind}
 use Rattle.cc_arith.specs.declared.unary_operator.IntUnary.TheVariants as sign
@@ -16,26 +16,23 @@ use Rattle.cc_syntax.specs.declared.operator.UnaryOp.TheVariants as u
 use Rattle.cc_syntax.specs.declared.operator.StepOp.{StepOp}
 use Rattle.cc_syntax.specs.declared.operator.StepOp.TheVariants as s
 use Rattle.cc_syntax.specs.declared.operator.Side.TheVariants as side
-use Rattle.cc_syntax.specs.Trees.{Name, ExprTree, name, integer, character, string, paren, unary, binary, assign, step, choice, comma, call, member, arrow, index, cast, size_expr, size_type, ExprTrees, TypeTree}
-use Rattle.cc_syntax.specs.Views.{gathered}
-use Rattle.cc_syntax.specs.Depth.{expr_depth}
-use Rattle.cc_grammar.specs.Levels.{level, binary_level, int_level, int_sign, unary_sign, step_sign, binary_sign, assign_sign}
+use Rattle.cc_syntax.specs.Trees.{Name, ExprTree, name, integer, character, string, paren, unary, step, cast, size_expr, size_type, TypeTree}
+use Rattle.cc_grammar.specs.Levels.{unary_sign, step_sign}
 use Rattle.cc_grammar.specs.Names.{Names, is_type}
-use Rattle.cc_grammar.specs.Outline.{Outline, end, token, part, depth, Stands}
+use Rattle.cc_grammar.specs.Outline.{Outline, end, token}
 use Rattle.cc_grammar.specs.Outlines as o
-use Rattle.cc_grammar.specs.Classes.{next_is, skip, spot, start, start_kind, start_sign, Start, begins_name, begins_integer, begins_character, begins_string, begins_paren, begins_unary, begins_step, begins_sizeof, begins_nothing, tail, tail_kind, tail_sign, Tail, goes_binary, goes_assign, goes_question, goes_comma, goes_call, goes_index, goes_dot, goes_arrow, goes_step, ends_here, binds, left_level, next_literal, literal, starts_spec}
-use Rattle.cc_grammar.specs.Outcomes.{Outcome, Parser, and_then, pure, refuse, take, ◌>>=◌, ◌>>◌, ◌<$>◌}
-use Rattle.cc_grammar.specs.Reading.{Inner, Mode, without_name, prefix, go_on, expression, where_next, skipping, literal_by, is_literal, literals, repeated, typed, arguments, id}
-use Rattle.cc_parse_laws.proofs.Spans.{Inside, Reads}
+use Rattle.cc_grammar.specs.Classes.{next_is, skip, spot, start, start_kind, start_sign, Start, begins_name, begins_integer, begins_character, begins_string, begins_paren, begins_unary, begins_step, begins_sizeof, next_literal, literal, starts_spec}
+use Rattle.cc_grammar.specs.Outcomes.{Parser, and_then, pure, refuse, take, ◌>>=◌, ◌>>◌, ◌<$>◌}
+use Rattle.cc_grammar.specs.Reading.{Inner, without_name, prefix, where_next, skipping, literal_by, is_literal, literals, typed, id}
+use Rattle.cc_parse_laws.proofs.Spans.{Reads}
 use Rattle.cc_parse_laws.proofs.Steps.{next_token, reads_next, reads_take, branch_true, branch_false, reads_length}
 use Rattle.cc_parse_laws.proofs.Lists.{Span, Again, Following, Shorter, repeated_again}
 use Rattle.cc_parse_laws.proofs.Peeks.{after, at_token, sign_ends}
-use Rattle.cc_parse_laws.proofs.Firsts.{inside_sinks, and_left, and_right, and_both, first_operand, no_type_ahead, op_most}
-use Rattle.cc_parse_laws.proofs.Edges.{edge, edge_above, edge_postfix, edge_least, op_least, ends_more, ends_prefix}
-use Rattle.cc_parse_laws.proofs.Climbs.{Climbs, IsRead, bound, mapped, done, rest_is, begun, climbed, ends_at, left_depth}
-use Rattle.cc_parse_laws.proofs.CompleteTypes.{id_again, type_again, first_type, arguments_again}
-use Rattle.cc_parse_laws.proofs.Listed as listed
-use Rattle.cc_parse_laws.proofs.Inner.{ReadsExpr, Ends, CompleteInner}
+use Rattle.cc_parse_laws.proofs.Firsts.{inside_sinks, and_left, and_right, and_both, first_operand, no_type_ahead}
+use Rattle.cc_parse_laws.proofs.Edges.{ends_more, ends_prefix}
+use Rattle.cc_parse_laws.proofs.Climbs.{Climbs, IsRead, bound, mapped, done, rest_is, begun}
+use Rattle.cc_parse_laws.proofs.CompleteTypes.{id_again, type_again, first_type}
+use Rattle.cc_parse_laws.proofs.Inner.{ReadsExpr, CompleteInner}
 
 -- ---- Tokens of operators
 

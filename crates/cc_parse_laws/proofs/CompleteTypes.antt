@@ -1,26 +1,25 @@
 -- Type names, parameters and arguments are read back.
-use Rattle.std.proofs.Common.{◌≡◌, ◌≤◌, ◌<◌, ◌+◌, refl, ℕ, zero, suc, max, Bool, true, false, List, [], ◌∷◌, length, Option, Some, None, Result, Ok, Err, arith, sym, ap, ◌∙◌, subst}
+use Rattle.std.proofs.Common.{◌≡◌, refl, ℕ, suc, true, false, List, [], ◌∷◌, Option, Ok, arith, ap, ◌∙◌, subst}
 use Rattle.cc_tree.specs.declared.place.Spot.{Spot}
 use Rattle.cc_lex.specs.declared.token.Token.{Token}
-use Rattle.cc_lex.specs.declared.token.TokenKind.{TokenKind}
 use Rattle.cc_lex.specs.declared.token.TokenKind.TheVariants as kind
 use Rattle.cc_lex.specs.declared.punct.Punct.TheVariants as p
 use Rattle.cc_syntax.specs.Trees.{Name, ExprTree, ExprTrees, no_exprs, more_exprs, TypeTree, type_name, TypeTrees, no_types, more_types, SpecTrees, DeclTree}
 use Rattle.cc_grammar.specs.Names.{Names, is_type}
-use Rattle.cc_grammar.specs.Outline.{Outline, end, token, part}
+use Rattle.cc_grammar.specs.Outline.{Outline}
 use Rattle.cc_grammar.specs.Outlines as o
 use Rattle.cc_grammar.specs.Classes.{next_is, skip, spot, starts_spec, next_ident, ident}
-use Rattle.cc_grammar.specs.Outcomes.{Outcome, Parser, and_then, pure, refuse, take, ◌>>=◌, ◌>>◌}
-use Rattle.cc_grammar.specs.Reading.{Inner, Mode, with_name, without_name, with_or_without, typed, parameters, arguments, separated, skipping, id, id_by}
-use Rattle.cc_parse_laws.proofs.Spans.{Inside, Reads}
+use Rattle.cc_grammar.specs.Outcomes.{Parser, and_then, pure, refuse, take, ◌>>=◌, ◌>>◌}
+use Rattle.cc_grammar.specs.Reading.{Inner, Mode, without_name, with_or_without, typed, parameters, arguments, separated, skipping, id, id_by}
+use Rattle.cc_parse_laws.proofs.Spans.{Reads}
 use Rattle.cc_parse_laws.proofs.Steps.{next_token, branch_true, branch_false}
 use Rattle.cc_parse_laws.proofs.Lists.{Again, takes, separated_again}
 use Rattle.cc_parse_laws.proofs.Peeks.{at_token, sign_other, sign_ends, sign_ends_specs, sign_ends_declarator}
 use Rattle.cc_parse_laws.proofs.Firsts.{first_operand, first_specs, opens_not, spec_not}
 use Rattle.cc_parse_laws.proofs.FirstDeclarators.{declarator_specs}
-use Rattle.cc_parse_laws.proofs.Climbs.{bound, mapped, done, rest_is}
+use Rattle.cc_parse_laws.proofs.Climbs.{bound, mapped, done}
 use Rattle.cc_parse_laws.proofs.Listed as listed
-use Rattle.cc_parse_laws.proofs.Inner.{ReadsExpr, ReadsDeclarator, Suits, Ends, EndsSpecs, EndsDeclarator, CompleteInner}
+use Rattle.cc_parse_laws.proofs.Inner.{ReadsDeclarator, Suits, Ends, EndsSpecs, EndsDeclarator, CompleteInner}
 
 -- an identifier that is no typedef name
 pub id_again : (names : Names) (n : Option Spot) (x : Name) (i : Outline) (d : ℕ) (ts r : List Token) → Reads (o.identifier names n x i) d ts r → id names ts ≡ Ok (x, skip ts)

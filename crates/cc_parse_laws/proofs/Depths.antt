@@ -28,7 +28,7 @@ flat_comma : (b : Bool) → depth (o.trailing_comma b) ≡ 0
 flat_comma true = refl
 flat_comma false = refl
 
-named_is_written : (f : DeclTree Spot) → o.is_named f ≡ true → o.is_written f ≡ true
+pub named_is_written : (f : DeclTree Spot) → o.is_named f ≡ true → o.is_written f ≡ true
 named_is_written (declared n x) h = refl
 named_is_written nameless h = absurd cc
 named_is_written (pointer n c f) h = refl

@@ -1,5 +1,5 @@
 -- What may follow an expression.
-use Rattle.std.proofs.Common.{◌≡◌, ◌≤◌, ◌<◌, ◌+◌, refl, ℕ, zero, suc, Bool, true, false, List, [], ◌∷◌, length, arith, ap, ◌∙◌}
+use Rattle.std.proofs.Common.{◌≤◌, ◌<◌, ◌+◌, ℕ, true, List, [], ◌∷◌, length, arith}
 use Rattle.cc_tree.specs.declared.place.Spot.{Spot}
 use Rattle.cc_arith.specs.declared.binary_operator.IntOp.{IntOp}
 use Rattle.cc_arith.specs.declared.binary_operator.IntOp.TheVariants as int
@@ -8,13 +8,11 @@ use Rattle.cc_syntax.specs.declared.operator.BinaryOp.{BinaryOp}
 use Rattle.cc_syntax.specs.declared.operator.BinaryOp.TheVariants as b
 use Rattle.cc_syntax.specs.declared.operator.Side.TheVariants as side
 use Rattle.cc_syntax.specs.Trees.{ExprTree, name, integer, character, string, paren, unary, binary, assign, step, choice, comma, call, member, arrow, index, cast, size_expr, size_type}
-use Rattle.cc_syntax.specs.Depth.{expr_depth}
 use Rattle.cc_grammar.specs.Levels.{level, binary_level, int_level}
 use Rattle.cc_grammar.specs.Names.{Names}
 use Rattle.cc_grammar.specs.Outlines as o
-use Rattle.cc_grammar.specs.Outline.{size}
 use Rattle.cc_grammar.specs.Classes.{Tail, goes_binary, goes_assign, goes_question, goes_comma, goes_call, goes_index, goes_dot, goes_arrow, goes_step, ends_here, tail, binds}
-use Rattle.cc_parse_laws.proofs.Spans.{Inside, Reads}
+use Rattle.cc_parse_laws.proofs.Spans.{Reads}
 use Rattle.cc_parse_laws.proofs.Steps.{reads_length}
 use Rattle.cc_parse_laws.proofs.Firsts.{op_most, inside_sinks}
 use Rattle.cc_parse_laws.proofs.Inner.{Ends, ReadsExpr}

@@ -1,18 +1,17 @@
 -- With which tokens declarators begin, and what the tokens before a declarator are followed by.
-use Rattle.std.proofs.Common.{◌≡◌, refl, ℕ, zero, suc, Bool, true, false, List, [], ◌∷◌, Option, Some, None, arith, sym, ap, ◌∙◌, subst}
-use Rattle.std.specs.Prelude.{if◌then◌else◌}
+use Rattle.std.proofs.Common.{◌≡◌, refl, ℕ, Bool, true, false, List, Option, Some, sym, ◌∙◌, subst}
 use Rattle.cc_tree.specs.declared.place.Spot.{Spot}
 use Rattle.cc_lex.specs.declared.token.Token.{Token}
 use Rattle.cc_lex.specs.declared.token.TokenKind.{TokenKind}
 use Rattle.cc_lex.specs.declared.token.TokenKind.TheVariants as kind
 use Rattle.cc_lex.specs.declared.keyword.Keyword.TheVariants as k
 use Rattle.cc_lex.specs.declared.punct.Punct.TheVariants as p
-use Rattle.cc_syntax.specs.Trees.{Name, DeclTree, declared, nameless, pointer, array, function, grouped}
+use Rattle.cc_syntax.specs.Trees.{DeclTree, declared, nameless, pointer, array, function, grouped}
 use Rattle.cc_grammar.specs.Names.{Names, is_type}
-use Rattle.cc_grammar.specs.Outline.{Outline, end, token, part}
+use Rattle.cc_grammar.specs.Outline.{Outline, end, token}
 use Rattle.cc_grammar.specs.Outlines as o
-use Rattle.cc_grammar.specs.Classes.{next_is, next_is_key, is_punct, spec_kind, starts_spec, is_spec, no_spec}
-use Rattle.cc_parse_laws.proofs.Spans.{Inside, Reads}
+use Rattle.cc_grammar.specs.Classes.{next_is, next_is_key, is_punct, spec_kind, starts_spec, is_spec}
+use Rattle.cc_parse_laws.proofs.Spans.{Reads}
 use Rattle.cc_parse_laws.proofs.Steps.{next_token}
 use Rattle.cc_parse_laws.proofs.Peeks.{after, inside, at_token, at_key}
 use Rattle.cc_parse_laws.proofs.Firsts.{inside_sinks, not_named}
@@ -27,10 +26,10 @@ pub record OpensDeclarator (names : Names) (ts : List Token) : Type 0 where
 opens_at : (names : Names) (h : Type 0) (k : TokenKind) (n : Option Spot) (i : Outline) (d : ℕ) (ts r : List Token) → is_spec (spec_kind names k) ≡ false → is_punct p.LeftBrace k ≡ false → is_punct p.RightParen k ≡ false
     → Reads (token h k n i) d ts r → OpensDeclarator names ts
 opens_at names h k n i d ts r a b c x = record {
-      no_spec = at_token (starts_spec names) (λ q. is_spec (spec_kind names q)) (λ t us. refl) h k n i d ts r x ∙ a;
-      no_brace = at_token (next_is p.LeftBrace) (is_punct p.LeftBrace) (λ t us. refl) h k n i d ts r x ∙ b;
-      no_close = at_token (next_is p.RightParen) (is_punct p.RightParen) (λ t us. refl) h k n i d ts r x ∙ c;
-    }
+  no_spec = at_token (starts_spec names) (λ q. is_spec (spec_kind names q)) (λ t us. refl) h k n i d ts r x ∙ a;
+  no_brace = at_token (next_is p.LeftBrace) (is_punct p.LeftBrace) (λ t us. refl) h k n i d ts r x ∙ b;
+  no_close = at_token (next_is p.RightParen) (is_punct p.RightParen) (λ t us. refl) h k n i d ts r x ∙ c;
+}
 
 -- behind a declarator that may have no token
 first_behind : (names : Names) (left : DeclTree Spot) (d : ℕ) (ts m : List Token) → (o.is_written left ≡ true → Reads (o.declarator names left) d ts m → OpensDeclarator names ts) → ReadsDeclarator names d left ts m → OpensDeclarator names m
@@ -75,9 +74,9 @@ declarator_specs names f d ts r y z = declarator_or names (EndsSpecs names) (λ 
 pub no_const : (names : Names) (ts : List Token) → starts_spec names ts ≡ false → next_is_key k.Const ts ≡ false
 no_const names ts x = by (next_is_key k.Const ts) refl
   where
-  by : (b : Bool) → next_is_key k.Const ts ≡ b → next_is_key k.Const ts ≡ false
-  by false e = e
-  by true e = let is : starts_spec names ts ≡ true = at_key (starts_spec names) (λ q. is_spec (spec_kind names q)) (λ t us. refl) k.Const ts e in absurd cc
+    by : (b : Bool) → next_is_key k.Const ts ≡ b → next_is_key k.Const ts ≡ false
+    by false e = e
+    by true e = let is : starts_spec names ts ≡ true = at_key (starts_spec names) (λ q. is_spec (spec_kind names q)) (λ t us. refl) k.Const ts e in absurd cc
 
 pub declarator_const : (names : Names) (f : DeclTree Spot) (d : ℕ) (ts r : List Token) → ReadsDeclarator names d f ts r → next_is_key k.Const r ≡ false → next_is_key k.Const ts ≡ false
 declarator_const names f d ts r y z = declarator_or names (λ us. next_is_key k.Const us ≡ false) (λ us x. no_const names us x.no_spec) f d ts r y z

@@ -1,6 +1,6 @@
 -- With which tokens expressions, specifiers and declarators begin.
-use Rattle.std.proofs.Common.{◌≡◌, ◌≤◌, ◌<◌, ◌+◌, refl, ℕ, zero, suc, Bool, true, false, List, [], ◌∷◌, length, Option, Some, None, arith, sym, ap, ◌∙◌, subst}
-use Rattle.std.specs.Prelude.{◌&&◌, if◌then◌else◌}
+use Rattle.std.proofs.Common.{◌≡◌, ◌≤◌, refl, ℕ, zero, suc, Bool, true, false, List, [], ◌∷◌, Option, Some, arith, sym, ap, ◌∙◌}
+use Rattle.std.specs.Prelude.{◌&&◌, ◌||◌}
 use Rattle.cc_arith.specs.declared.binary_operator.IntOp.{IntOp}
 use Rattle.cc_arith.specs.declared.binary_operator.IntOp.TheVariants as int
 use Rattle.cc_arith.specs.declared.unary_operator.IntUnary.TheVariants as sign
@@ -20,16 +20,16 @@ use Rattle.cc_syntax.specs.declared.operator.StepOp.TheVariants as s
 use Rattle.cc_syntax.specs.declared.operator.Side.TheVariants as side
 use Rattle.cc_syntax.specs.declared.operator.SpecWord.{SpecWord}
 use Rattle.cc_syntax.specs.declared.operator.SpecWord.TheVariants as w
-use Rattle.cc_syntax.specs.Trees.{Name, ExprTree, name, integer, character, string, paren, unary, binary, assign, step, choice, comma, call, member, arrow, index, cast, size_expr, size_type, TypeTree, type_name, SpecTree, word, named, struct, enum, SpecTrees, no_specs, more_specs, DeclTree, declared, nameless, pointer, array, function, grouped}
+use Rattle.cc_syntax.specs.Trees.{Name, ExprTree, name, integer, character, string, paren, unary, binary, assign, step, choice, comma, call, member, arrow, index, cast, size_expr, size_type, SpecTree, word, named, struct, enum, SpecTrees, no_specs, more_specs}
 use Rattle.cc_grammar.specs.Levels.{level, binary_level, int_level, unary_sign, step_sign, spec_keyword}
 use Rattle.cc_grammar.specs.Names.{Names, is_type}
-use Rattle.cc_grammar.specs.Outline.{Outline, end, token, part, depth, Stands}
+use Rattle.cc_grammar.specs.Outline.{Outline, end, token}
 use Rattle.cc_grammar.specs.Outlines as o
-use Rattle.cc_grammar.specs.Classes.{next_is, next_is_key, skip, spot, is_punct, start, start_kind, start_sign, Start, begins_name, begins_integer, begins_character, begins_string, begins_paren, begins_unary, begins_step, begins_sizeof, begins_nothing, spec_start, spec_kind, spec_key, starts_spec, is_spec, no_spec, spec_named, spec_word, same_punct}
+use Rattle.cc_grammar.specs.Classes.{next_is, skip, spot, is_punct, start, start_kind, start_sign, Start, begins_name, begins_integer, begins_character, begins_string, begins_paren, begins_unary, begins_step, begins_sizeof, begins_nothing, spec_kind, spec_key, starts_spec, is_spec}
 use Rattle.cc_parse_laws.proofs.Spans.{Inside, Reads, reads_depth, reads_within}
-use Rattle.cc_parse_laws.proofs.Steps.{Next, next_token}
-use Rattle.cc_parse_laws.proofs.Peeks.{after, inside, at_token, at_sign, sign_spec, sign_other}
-use Rattle.cc_parse_laws.proofs.Inner.{ReadsExpr, ReadsDeclarator, EndsSpecs}
+use Rattle.cc_parse_laws.proofs.Steps.{next_token}
+use Rattle.cc_parse_laws.proofs.Peeks.{after, inside, at_token, at_sign, sign_spec}
+use Rattle.cc_parse_laws.proofs.Inner.{ReadsExpr}
 
 -- what is read in a counted node is read at the node's own depth too
 pub inside_sinks : (c : Bool) (i : Outline) (d : ℕ) (ts r : List Token) → Inside c (λ e. Reads i e ts r) d → Reads i d ts r
@@ -46,6 +46,16 @@ and_right false b e = refl
 
 pub and_both : (a b : Bool) → a ≡ true → b ≡ true → a && b ≡ true
 and_both a b e f = rw (e, f) refl
+
+pub or_left : (a b : Bool) → a ≡ true → (a || b) ≡ true
+or_left a b e = rw e refl
+
+pub or_right : (a b : Bool) → b ≡ true → (a || b) ≡ true
+or_right true b e = refl
+or_right false b e = e
+
+pub neither : (a b : Bool) → a ≡ false → b ≡ false → (a || b) ≡ false
+neither a b e f = rw (e, f) refl
 
 -- ---- Expressions
 
@@ -67,9 +77,9 @@ pub record OpensExpr (names : Names) (ts : List Token) : Type 0 where
 
 opens_at : (names : Names) (h : Type 0) (k : TokenKind) (n : Option Spot) (i : Outline) (d : ℕ) (ts r : List Token) → opens (start_kind k) ≡ true → is_spec (spec_kind names k) ≡ false → Reads (token h k n i) d ts r → OpensExpr names ts
 opens_at names h k n i d ts r a b x = record {
-      begins = ap opens (at_token start start_kind (λ t us. refl) h k n i d ts r x) ∙ a;
-      no_spec = at_token (starts_spec names) (λ c. is_spec (spec_kind names c)) (λ t us. refl) h k n i d ts r x ∙ b;
-    }
+  begins = ap opens (at_token start start_kind (λ t us. refl) h k n i d ts r x) ∙ a;
+  no_spec = at_token (starts_spec names) (λ c. is_spec (spec_kind names c)) (λ t us. refl) h k n i d ts r x ∙ b;
+}
 
 unary_opens : (op : UnaryOp) → opens (start_sign (unary_sign op)) ≡ true
 unary_opens u.Address = refl
@@ -117,13 +127,13 @@ first_operand names e d ts r y = first_expr names e d ts r (inside_sinks true (o
 pub opens_not : (names : Names) (q : Punct) (ts : List Token) → start_sign q ≡ begins_nothing → OpensExpr names ts → next_is q ts ≡ false
 opens_not names q ts none x = by (next_is q ts) refl
   where
-  by : (b : Bool) → next_is q ts ≡ b → next_is q ts ≡ false
-  by false e = e
-  by true e =
-      let here : opens (start ts) ≡ opens (start_sign q) = ap opens (at_sign start start_kind (λ t us. refl) q ts e) in
-      let there : opens (start_sign q) ≡ false = ap opens none in
-      let begins : opens (start ts) ≡ true = x.begins in
-      absurd cc
+    by : (b : Bool) → next_is q ts ≡ b → next_is q ts ≡ false
+    by false e = e
+    by true e =
+        let here : opens (start ts) ≡ opens (start_sign q) = ap opens (at_sign start start_kind (λ t us. refl) q ts e) in
+        let there : opens (start_sign q) ≡ false = ap opens none in
+        let begins : opens (start ts) ≡ true = x.begins in
+        absurd cc
 
 int_most : (op : IntOp) → int_level op ≤ 13
 int_most int.Or = omega arith
@@ -238,6 +248,6 @@ first_specs names (more_specs q ss) n d ts r b y = (first_spec names q d ts y.0 
 pub spec_not : (names : Names) (q : Punct) (ts : List Token) → starts_spec names ts ≡ true → next_is q ts ≡ false
 spec_not names q ts x = by (next_is q ts) refl
   where
-  by : (b : Bool) → next_is q ts ≡ b → next_is q ts ≡ false
-  by false e = e
-  by true e = let no : starts_spec names ts ≡ false = sign_spec names q ts e in absurd cc
+    by : (b : Bool) → next_is q ts ≡ b → next_is q ts ≡ false
+    by false e = e
+    by true e = let no : starts_spec names ts ≡ false = sign_spec names q ts e in absurd cc

@@ -5,7 +5,10 @@ pub mod CompleteDeclarations
 pub mod CompleteDeclarators
 pub mod CompleteExpressions
 pub mod CompleteFiles
+pub mod CompleteMembers
 pub mod CompletePrefixes
+pub mod CompleteReaders
+pub mod CompleteSpecifiers
 pub mod CompleteStatements
 pub mod CompleteTypes
 pub mod CompleteValues
@@ -15,6 +18,7 @@ pub mod Endings
 pub mod ExprSpots
 pub mod FirstDeclarators
 pub mod Firsts
+pub mod Grows
 pub mod Inner
 pub mod Listed
 pub mod Lists

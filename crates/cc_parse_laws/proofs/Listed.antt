@@ -1,22 +1,21 @@
 -- The lists in expressions, specifiers and declarators as lists of items that are read one after another.
-use Rattle.std.proofs.Common.{◌≡◌, ◌≤◌, ◌<◌, ◌+◌, refl, ℕ, zero, suc, max, Bool, true, false, List, [], ◌∷◌, length, Option, Some, None, arith, sym, ap, ◌∙◌, subst}
+use Rattle.std.proofs.Common.{◌≡◌, ◌≤◌, refl, ℕ, suc, Bool, true, false, List, [], ◌∷◌, None, arith, sym, ap, subst}
 use Rattle.cc_tree.specs.declared.place.Spot.{Spot}
 use Rattle.cc_lex.specs.declared.token.Token.{Token}
-use Rattle.cc_lex.specs.declared.token.TokenKind.{TokenKind}
 use Rattle.cc_lex.specs.declared.token.TokenKind.TheVariants as kind
 use Rattle.cc_lex.specs.declared.punct.Punct.TheVariants as p
-use Rattle.cc_syntax.specs.Trees.{Name, ExprTree, ExprTrees, no_exprs, more_exprs, TypeTree, type_name, TypeTrees, no_types, more_types, SpecTree, word, named, struct, enum, SpecTrees, no_specs, more_specs, MemberTree, members, MemberTrees, no_members, more_members, ConstantTree, constant, ConstantTrees, no_constants, more_constants, DeclTree, declared, nameless, pointer, array, function, grouped, DeclTrees, no_declarators, more_declarators}
+use Rattle.cc_syntax.specs.Trees.{ExprTree, ExprTrees, no_exprs, more_exprs, TypeTree, type_name, TypeTrees, no_types, more_types, SpecTree, word, named, struct, enum, SpecTrees, no_specs, more_specs, MemberTree, members, MemberTrees, no_members, more_members, ConstantTree, constant, ConstantTrees, no_constants, more_constants, DeclTree, declared, nameless, pointer, array, function, grouped, DeclTrees, no_declarators, more_declarators}
 use Rattle.cc_syntax.specs.Views.{gathered, gathered_types, gathered_specs, gathered_members, gathered_constants, gathered_declarators}
 use Rattle.cc_grammar.specs.Levels.{level}
-use Rattle.cc_grammar.specs.Names.{Names, is_type}
-use Rattle.cc_grammar.specs.Outline.{Outline, end, token, part, size}
+use Rattle.cc_grammar.specs.Names.{Names}
+use Rattle.cc_grammar.specs.Outline.{end, size}
 use Rattle.cc_grammar.specs.Outlines as o
-use Rattle.cc_grammar.specs.Classes.{next_is, skip, starts_spec, next_ident, ident}
+use Rattle.cc_grammar.specs.Classes.{next_is, skip, starts_spec}
 use Rattle.cc_grammar.specs.Reading.{opposite}
-use Rattle.cc_parse_laws.proofs.Spans.{Inside, Reads}
-use Rattle.cc_parse_laws.proofs.Steps.{Next, next_token, reads_next, reads_length}
+use Rattle.cc_parse_laws.proofs.Spans.{Reads}
+use Rattle.cc_parse_laws.proofs.Steps.{next_token, reads_next, reads_length}
 use Rattle.cc_parse_laws.proofs.Lists.{Span, Others, Separated, Braced, Enclosed, Following, Repeated, Shorter}
-use Rattle.cc_parse_laws.proofs.Peeks.{after, inside, at_token}
+use Rattle.cc_parse_laws.proofs.Peeks.{after, inside}
 use Rattle.cc_parse_laws.proofs.Firsts.{inside_sinks, first_spec, first_specs, spec_not}
 use Rattle.cc_parse_laws.proofs.Edges.{operand_shorter}
 use Rattle.cc_parse_laws.proofs.Inner.{ReadsExpr, ReadsDeclarator}
@@ -154,9 +153,10 @@ module _ (names : Names) (d : ℕ) where
   constant_list c cs trailing ts r y =
       let list = inside (o.constant_list names (more_constants c cs) trailing) in
       let t = next_token (Unit {0}) (kind.Punct p.LeftBrace) None (after list) d ts y.0 y.2 in
-      let others = constant_others cs t.after.0 t.after.3.0 t.after.3.2 in
-      (reads_next (Unit {0}) p.LeftBrace None (after list) d ts y.0 y.2,
-      subst (Enclosed ConstantSpan (c ∷ constants cs) trailing (skip ts)) y.3 (constant_end c cs trailing (skip ts) t.after.0 t.after.3.0 y.0 t.after.2 others t.after.3.3))
+      let others = constant_others cs t.after.0 t.after.3.0 t.after.3.2 in (
+        reads_next (Unit {0}) p.LeftBrace None (after list) d ts y.0 y.2,
+        subst (Enclosed ConstantSpan (c ∷ constants cs) trailing (skip ts)) y.3 (constant_end c cs trailing (skip ts) t.after.0 t.after.3.0 y.0 t.after.2 others t.after.3.3),
+      )
 
   -- ---- As long as another begins
 

@@ -1,11 +1,11 @@
 -- Lists as they are read: one item after another, with commas between them, up to a brace or as long as another begins.
-use Rattle.std.proofs.Common.{◌≡◌, ◌≤◌, ◌<◌, ◌+◌, refl, ℕ, zero, suc, Bool, true, false, List, [], ◌∷◌, length, Result, Ok, Err, arith, sym, ap, ◌∙◌, subst, ◌⊎◌, inl, inr}
+use Rattle.std.proofs.Common.{◌≡◌, ◌≤◌, ◌<◌, ◌+◌, refl, ℕ, zero, suc, Bool, true, false, List, [], ◌∷◌, length, Ok, arith, sym, ap, ◌∙◌, subst, inl, inr}
 use Rattle.cc_lex.specs.declared.token.Token.{Token}
 use Rattle.cc_lex.specs.declared.punct.Punct.{Punct}
 use Rattle.cc_lex.specs.declared.punct.Punct.TheVariants as p
 use Rattle.cc_grammar.specs.Classes.{next_is, is_punct, skip}
-use Rattle.cc_grammar.specs.Outcomes.{Outcome, Parser, and_then, take, ◌>>=◌, ◌>>◌, pure, ◌<$>◌}
-use Rattle.cc_grammar.specs.Reading.{branch, where_next, skipping, separated_by, separated, enclosed_by, enclosed, repeated_by, repeated}
+use Rattle.cc_grammar.specs.Outcomes.{Parser, and_then, take, ◌>>◌, pure, ◌<$>◌}
+use Rattle.cc_grammar.specs.Reading.{where_next, skipping, separated_by, separated, enclosed_by, enclosed, repeated_by, repeated}
 use Rattle.cc_parse_laws.proofs.Steps.{punct_kind, bind_ok, map_ok, ok_is, branched, branch_true, branch_false, take_ok}
 
 -- what an item of a list reads, from some tokens to others

@@ -1,5 +1,5 @@
 -- What is known of the next token.
-use Rattle.std.proofs.Common.{◌≡◌, ◌≤◌, ◌<◌, ◌+◌, refl, ℕ, zero, suc, Bool, true, false, List, [], ◌∷◌, length, Option, Some, None, arith, sym, ap, ◌∙◌}
+use Rattle.std.proofs.Common.{◌≡◌, ◌<◌, refl, ℕ, suc, true, false, List, [], ◌∷◌, length, Option, None, ap, ◌∙◌}
 use Rattle.cc_tree.specs.declared.place.Spot.{Spot}
 use Rattle.cc_lex.specs.declared.token.Token.{Token}
 use Rattle.cc_lex.specs.declared.token.TokenKind.{TokenKind}
@@ -10,7 +10,7 @@ use Rattle.cc_lex.specs.declared.punct.Punct.{Punct}
 use Rattle.cc_lex.specs.declared.punct.Punct.TheVariants as p
 use Rattle.cc_grammar.specs.Names.{Names}
 use Rattle.cc_grammar.specs.Outline.{Outline, end, token, part}
-use Rattle.cc_grammar.specs.Classes.{next_is, next_is_key, skip, start, start_kind, Start, begins_nothing, tail, tail_kind, next_ident, ident, next_literal, literal, is_punct, is_keyword, spec_start, spec_kind, starts_spec, is_spec, no_spec, binds, same_punct}
+use Rattle.cc_grammar.specs.Classes.{next_is, next_is_key, skip, tail, tail_kind, next_ident, ident, next_literal, literal, is_punct, is_keyword, spec_kind, starts_spec, is_spec, binds, same_punct}
 use Rattle.cc_parse_laws.proofs.Spans.{Reads}
 use Rattle.cc_parse_laws.proofs.Steps.{punct_kind, keyword_kind}
 use Rattle.cc_parse_laws.proofs.Inner.{Ends, EndsSpecs, EndsDeclarator}
@@ -69,12 +69,12 @@ sign_ends_specs names s ts other e = record { no_spec = sign_spec names s ts e; 
 
 pub sign_ends_declarator : (s : Punct) (ts : List Token) → same_punct p.LeftBracket s ≡ false → same_punct p.LeftParen s ≡ false → same_punct p.Star s ≡ false → next_is s ts ≡ true → EndsDeclarator ts
 sign_ends_declarator s ts a b c e = record {
-      no_bracket = sign_other p.LeftBracket s ts a e;
-      no_paren = sign_other p.LeftParen s ts b e;
-      no_star = sign_other p.Star s ts c e;
-      no_name = sign_ident s ts e;
-      no_const = sign_key k.Const s ts e;
-    }
+  no_bracket = sign_other p.LeftBracket s ts a e;
+  no_paren = sign_other p.LeftParen s ts b e;
+  no_star = sign_other p.Star s ts c e;
+  no_name = sign_ident s ts e;
+  no_const = sign_key k.Const s ts e;
+}
 
 -- a shorter list
 pub skip_shorter : (s : Punct) (ts : List Token) → next_is s ts ≡ true → suc (length (skip ts)) ≡ length ts

@@ -1,11 +1,11 @@
 -- The lists of the grammar turn by turn are the lists of the grammar.
-use Rattle.std.proofs.Common.{◌≡◌, ◌+◌, ◌-◌, ◌<◌, refl, ℕ, zero, suc, Bool, true, false, List, [], ◌∷◌, ◌++◌, length, Result, Ok, Err, arith, sym, ap, ◌∙◌}
+use Rattle.std.proofs.Common.{◌≡◌, refl, ℕ, zero, suc, Bool, true, false, List, [], ◌∷◌, ◌++◌, length, Ok, Err, sym, ap, ◌∙◌}
 use Rattle.std.proofs.lemmas.List.{append_assoc}
 use Rattle.cc_lex.specs.declared.token.Token.{Token}
 use Rattle.cc_lex.specs.declared.punct.Punct.TheVariants as p
 use Rattle.cc_grammar.specs.Classes.{next_is, skip}
-use Rattle.cc_grammar.specs.Outcomes.{Outcome, Parser, and_then, ◌>>=◌, ◌>>◌, pure, ◌<$>◌, take}
-use Rattle.cc_grammar.specs.Reading.{branch, where_next, skipping, separated_by, separated, enclosed_by, enclosed, repeated_by, repeated}
+use Rattle.cc_grammar.specs.Outcomes.{Outcome, Parser, and_then, ◌>>◌, pure, ◌<$>◌, take}
+use Rattle.cc_grammar.specs.Reading.{branch, where_next, skipping, separated_by, separated, enclosed_by, repeated_by, repeated}
 use Rattle.cc_parse_tokens.specs.Turns.{separated_from, enclosed_from, repeated_from}
 
 -- what was found, before what is read
@@ -17,11 +17,11 @@ abbrev pub before_marked : {A : Type 0} → List A → Outcome (List A × Bool) 
 before_marked found (Ok x) = Ok ((found ++ x.0.0, x.0.1), x.1)
 before_marked found (Err r) = Err r
 
-one_more : {A : Type 0} (found : List A) (x : A) (o : Outcome (List A)) → before (found ++ x ∷ []) o ≡ before found (and_then o (λ xs r. Ok (x ∷ xs, r)))
+pub one_more : {A : Type 0} (found : List A) (x : A) (o : Outcome (List A)) → before (found ++ x ∷ []) o ≡ before found (and_then o (λ xs r. Ok (x ∷ xs, r)))
 one_more found x (Ok y) = ap (λ zs. Ok (zs, y.1)) (append_assoc found (x ∷ []) y.0)
 one_more found x (Err r) = refl
 
-one_more_marked : {A : Type 0} (found : List A) (x : A) (o : Outcome (List A × Bool)) → before_marked (found ++ x ∷ []) o ≡ before_marked found (and_then o (λ xs r. Ok ((x ∷ xs.0, xs.1), r)))
+pub one_more_marked : {A : Type 0} (found : List A) (x : A) (o : Outcome (List A × Bool)) → before_marked (found ++ x ∷ []) o ≡ before_marked found (and_then o (λ xs r. Ok ((x ∷ xs.0, xs.1), r)))
 one_more_marked found x (Ok y) = ap (λ zs. Ok ((zs, y.0.1), y.1)) (append_assoc found (x ∷ []) y.0.0)
 one_more_marked found x (Err r) = refl
 
@@ -77,7 +77,7 @@ repeated_is more one ts = sym (nothing_before (repeated_by more one (length ts) 
 
 enclosed_then : {A : Type 0} (one : Parser A) (turns : ℕ) (found : List A) → ((found : List A) (ts : List Token) → enclosed_from one turns found ts ≡ before_marked found (enclosed_by one turns ts))
     → (x : A) (us : List Token) (b : Bool) → branch b (skipping (pure (found ++ x ∷ [], true))) (enclosed_from one turns (found ++ x ∷ [])) us
-      ≡ before_marked found (branch b (skipping (pure (x ∷ [], true))) ((λ xs. (x ∷ xs.0, xs.1)) <$> enclosed_by one turns) us)
+    ≡ before_marked found (branch b (skipping (pure (x ∷ [], true))) ((λ xs. (x ∷ xs.0, xs.1)) <$> enclosed_by one turns) us)
 enclosed_then one turns found again x us true = refl
 enclosed_then one turns found again x us false = again (found ++ x ∷ []) us ∙ one_more_marked found x (enclosed_by one turns us)
 
@@ -87,13 +87,13 @@ enclosed_ends found x (Err r) = refl
 
 enclosed_comma : {A : Type 0} (one : Parser A) (turns : ℕ) (found : List A) → ((found : List A) (ts : List Token) → enclosed_from one turns found ts ≡ before_marked found (enclosed_by one turns ts))
     → (x : A) (us : List Token) (b : Bool) → branch b (skipping (where_next (next_is p.RightBrace) (skipping (pure (found ++ x ∷ [], true))) (enclosed_from one turns (found ++ x ∷ [])))) (take p.RightBrace >> pure (found ++ x ∷ [], false)) us
-      ≡ before_marked found (branch b (skipping (where_next (next_is p.RightBrace) (skipping (pure (x ∷ [], true))) ((λ xs. (x ∷ xs.0, xs.1)) <$> enclosed_by one turns))) (take p.RightBrace >> pure (x ∷ [], false)) us)
+    ≡ before_marked found (branch b (skipping (where_next (next_is p.RightBrace) (skipping (pure (x ∷ [], true))) ((λ xs. (x ∷ xs.0, xs.1)) <$> enclosed_by one turns))) (take p.RightBrace >> pure (x ∷ [], false)) us)
 enclosed_comma one turns found again x us true = enclosed_then one turns found again x (skip us) (next_is p.RightBrace (skip us))
 enclosed_comma one turns found again x us false = enclosed_ends found x (take p.RightBrace us)
 
 enclosed_first : {A : Type 0} (one : Parser A) (turns : ℕ) (found : List A) → ((found : List A) (ts : List Token) → enclosed_from one turns found ts ≡ before_marked found (enclosed_by one turns ts))
     → (o : Outcome A) → and_then o (λ x. where_next (next_is p.Comma) (skipping (where_next (next_is p.RightBrace) (skipping (pure (found ++ x ∷ [], true))) (enclosed_from one turns (found ++ x ∷ [])))) (take p.RightBrace >> pure (found ++ x ∷ [], false)))
-      ≡ before_marked found (and_then o (λ x. where_next (next_is p.Comma) (skipping (where_next (next_is p.RightBrace) (skipping (pure (x ∷ [], true))) ((λ xs. (x ∷ xs.0, xs.1)) <$> enclosed_by one turns))) (take p.RightBrace >> pure (x ∷ [], false))))
+    ≡ before_marked found (and_then o (λ x. where_next (next_is p.Comma) (skipping (where_next (next_is p.RightBrace) (skipping (pure (x ∷ [], true))) ((λ xs. (x ∷ xs.0, xs.1)) <$> enclosed_by one turns))) (take p.RightBrace >> pure (x ∷ [], false))))
 enclosed_first one turns found again (Ok y) = enclosed_comma one turns found again y.0 y.1 (next_is p.Comma y.1)
 enclosed_first one turns found again (Err r) = refl
 

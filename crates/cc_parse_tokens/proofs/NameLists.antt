@@ -5,7 +5,7 @@ use Rattle.std.specs.Prelude.{String}
 use Rattle.std.specs.String.{string_bytes, string_eq}
 use Rattle.std.specs.Str.{bytes_eq}
 use Rattle.std.proofs.lemmas.List.{map-append}
-use Rattle.cc_grammar.specs.Names.{is_type, added}
+use Rattle.cc_grammar.specs.Names.{added}
 
 pub any_of_names : {Z : Type 0} (test : List ℕ → Bool) (names : List (String Z)) → list_any test (map string_bytes names) ≡ list_any (λ name. test (string_bytes name)) names
 any_of_names test [] = refl
@@ -18,6 +18,6 @@ any_string name names = any_of_names (bytes_eq (string_bytes name)) names
 pub added_string : {Z : Type 0} (name : String Z) (names : List (String Z)) → map string_bytes (if list_any (string_eq name) names then names else names ++ name ∷ []) ≡ added (string_bytes name) (map string_bytes names)
 added_string {Z} name names = by (list_any (string_eq name) names) refl
   where
-  by : (b : Bool) → list_any (string_eq name) names ≡ b → map string_bytes (if list_any (string_eq name) names then names else names ++ name ∷ []) ≡ added (string_bytes name) (map string_bytes names)
-  by true e = rw (e, any_string name names, e) refl
-  by false e = rw (e, any_string name names, e) (map-append string_bytes names (name ∷ []))
+    by : (b : Bool) → list_any (string_eq name) names ≡ b → map string_bytes (if list_any (string_eq name) names then names else names ++ name ∷ []) ≡ added (string_bytes name) (map string_bytes names)
+    by true e = rw (e, any_string name names, e) refl
+    by false e = rw (e, any_string name names, e) (map-append string_bytes names (name ∷ []))

@@ -63,6 +63,6 @@ pub enum StmtStart {
     Return,
     Case,
     Default,
-    /// An expression, or nothing.
+    /// An expression, a declaration, or nothing.
     Other,
 }

@@ -1,5 +1,5 @@
 // The tokens that are left.
-ghost use Rattle.std.specs.Prelude.{◌≡◌, length, option_map};
+ghost use Rattle.std.specs.Prelude.{◌≡◌, ◌<◌, ◌^◌, length, option_map};
 ghost use Rattle.cc_grammar.specs.Classes as grammar;
 ghost use Rattle.cc_grammar.specs.Outcomes as spec;
 ghost use Rattle.cc_parse_tokens.specs.Classes.{class_of_start, class_of_spec, tail_of, stmt_of, integer_of, character_of};
@@ -10,14 +10,14 @@ use crate::class::{SpecStart, Start, StmtStart, Tail};
 use crate::fault::Fault;
 use crate::names::TypedefNames;
 use crate::table::{spec_key, start_key, start_sign, stmt_key, stmt_sign, tail_sign};
-use cc_lex::{Keyword, Punct, Token, TokenKind};
 use cc_arith::IntKind;
+use cc_lex::{Keyword, Punct, Token, TokenKind};
 use cc_tree::{Bytes, Spot, Text};
 use std::marker::Model;
 
 /// The tokens that are left. A contract sees them as a list.
 ///
-/// A reader that refuses a token for its depth alone marks it, so that the fault can tell so.
+/// A reader that refuses a token for its depth alone marks it, so that the fault can tell so. No clause speaks of marks.
 #[derive(Drop)]
 pub struct Cursor<'a> {
     rest: &'a [Token],
@@ -44,7 +44,8 @@ impl<'a> Cursor<'a> {
 
     /// How many tokens are left.
     pub fn len(&self) -> usize
-        ensures { result ≡ length self.now }
+        ensures value { result ≡ length self.now }
+        ensures small { result < 2 ^ 63 }
     {
         self.rest.len()
     }

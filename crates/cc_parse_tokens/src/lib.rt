@@ -1,7 +1,7 @@
 //! What the parser reads with: the tokens that are left, what the next one can begin or go on with, the typedef names so
 //! far, and why reading stops.
 //!
-//! Each call is exactly the function of the same name in `cc_grammar`'s definitions of reading.
+//! Each call is exactly what the definition that its contract names gives. Of marks no clause speaks.
 #![tactic(auto)]
 
 mod class;
@@ -9,6 +9,8 @@ mod cursor;
 mod fault;
 mod names;
 mod table;
+#[cfg(test)]
+mod tests;
 
 pub use class::{SpecStart, Start, StmtStart, Tail};
 pub use cursor::Cursor;

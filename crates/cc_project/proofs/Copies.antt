@@ -1,10 +1,9 @@
 -- Loops that copy a list.
-use Rattle.std.proofs.Common.{◌≡◌, ℕ, ◌+◌, ◌<◌, ◌≤◌, List, [], ◌∷◌, ◌++◌, length, map, drop, get_or, refl, ap, sym, ◌∙◌, append_assoc}
+use Rattle.std.proofs.Common.{◌≡◌, ℕ, ◌+◌, ◌<◌, ◌≤◌, List, [], ◌∷◌, ◌++◌, length, map, drop, get_or, ap, sym, ◌∙◌, append_assoc}
 use Rattle.std.proofs.lemmas.List.{append-nil}
-use Rattle.toml.specs.Data.{Data, get}
+use Rattle.toml.specs.Data.{Data}
 use Rattle.toml.specs.View.{view}
 use Rattle.toml.specs.declared.value.Value.{Value}
-use Rattle.cc_tree.specs.declared.place.CompId.{CompId}
 use Rattle.cc_project.specs.Values.{text_of}
 use Rattle.cc_project.specs.Order.{files_of}
 use Rattle.cc_project.specs.Project.{files_in, files_from}

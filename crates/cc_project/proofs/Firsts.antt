@@ -1,6 +1,5 @@
 -- The first of two lists of rules that fails.
 use Rattle.std.proofs.Common.{◌≡◌, ℕ, Bool, true, false, cond, List, [], ◌∷◌, ◌++◌, Option, Some, None, Result, Ok, Err, IfErr, IsErrAnd, refl, ap, subst, sym, ◌∙◌}
-use Rattle.std.proofs.lemmas.Bool.{false≢true}
 use Rattle.cc_project.specs.Order.{Rule, at, first_failing}
 use Rattle.cc_project.specs.Outcome.{Reports}
 use Rattle.cc_project.specs.declared.fault.ProjectFault.{ProjectFault}

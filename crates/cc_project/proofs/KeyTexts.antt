@@ -1,5 +1,5 @@
 -- The texts of keys, as they are written.
-use Rattle.std.proofs.Common.{◌≡◌, ℕ, List, [], ◌∷◌, ◌++◌, Option, Some, codes, refl, ap, sym, ◌∙◌, append_assoc}
+use Rattle.std.proofs.Common.{◌≡◌, ℕ, List, [], ◌∷◌, ◌++◌, Some, ap, sym, ◌∙◌, append_assoc}
 use Rattle.std.specs.Fmt.{decimal}
 use Rattle.cc_project.specs.Places.{item_key, member_key}
 use Rattle.cc_project.specs.Keys.{owned_key, field_text, indexed_key, key_text}

@@ -6,3 +6,5 @@ pub mod Firsts
 pub mod Turns
 pub mod Copies
 pub mod Limits
+pub mod Passes
+pub mod WellMade

@@ -1,9 +1,8 @@
 -- What a document keeps that breaks no rule.
-use Rattle.std.proofs.Common.{◌≡◌, ◌≤◌, ℕ, Bool, true, false, ◌&&◌, nat_le, List, [], ◌∷◌, length, map, Option, Some, None, codes, refl, ap, sym, ◌∙◌, arith}
+use Rattle.std.proofs.Common.{◌≡◌, ◌≤◌, ℕ, Bool, true, ◌&&◌, nat_le, List, [], length, Option, Some, None, codes, ap, sym, ◌∙◌, arith}
 use Rattle.std.proofs.lemmas.Bool.{and_parts, false≢true}
 use Rattle.std.proofs.lemmas.Bool.Decides.{nat_tests}
 use Rattle.toml.specs.Data.{Data, string, integer, float, boolean, datetime, array, table, get}
-use Rattle.toml.specs.View.{view}
 use Rattle.toml.specs.declared.value.Value.{Value}
 use Rattle.cc_project.specs.Rules as rule
 use Rattle.cc_project.specs.Values.{texts_in, is_array, is_list, is_there, is_missing_or, is_table, items_of, items_in, list_of}
@@ -36,6 +35,10 @@ pub there_size : (least most : ℕ) (test : Data → Bool) (value : Option Data)
     → (least ≤ length (items_in value)) × (length (items_in value) ≤ most)
 there_size least most test None holds = absurd (false≢true holds)
 there_size least most test (Some d) holds = array_size least most test d holds
+
+pub missing_size : (most : ℕ) (test : Data → Bool) (value : Option Data) → is_missing_or (is_array 0 most test) value ≡ true → length (items_in value) ≤ most
+missing_size most test None holds = omega arith
+missing_size most test (Some d) holds = (array_size 0 most test d holds).1
 
 -- ---- Each rule holds
 

@@ -1,5 +1,5 @@
 -- The tests of texts, by their parts.
-use Rattle.std.proofs.Common.{◌≡◌, ℕ, Bool, ◌&&◌, ◌||◌, true, false, not, nat_le, eqb, List, [], ◌∷◌, length, slice_get, Some, refl, ap, sym, ◌∙◌}
+use Rattle.std.proofs.Common.{◌≡◌, ℕ, Bool, ◌&&◌, ◌||◌, true, false, not, nat_le, eqb, List, [], ◌∷◌, length, slice_get, Some, refl, ap}
 use Rattle.std.specs.List.{list_all}
 use Rattle.cc_lex.specs.Bytes as lex
 use Rattle.cc_project.specs.Names.{is_letter, in_name, in_file_name, in_requirement, is_name, is_file_name, is_requirement, is_identifier, has_part_up}

@@ -9,7 +9,7 @@ use Rattle.cc_project.specs.Names.{is_new, is_function_name}
 use Rattle.cc_project.specs.Places.{item_key}
 use Rattle.cc_project.specs.Values.{text_of, text_in}
 use Rattle.cc_project.specs.Rules as rule
-use Rattle.cc_project.specs.Order.{Rule, at, array_rules, at_each, at_each_new, component_rules, components_rules, test_rules, tests_rules, name_of, files_of, first_failing}
+use Rattle.cc_project.specs.Order.{at, array_rules, at_each, at_each_new, component_rules, components_rules, test_rules, tests_rules, name_of, files_of, first_failing}
 use Rattle.cc_project.specs.Outcome.{Reports}
 use Rattle.cc_project.specs.Views.{all_data, texts_of}
 use Rattle.cc_project.specs.declared.fault.ProjectFault.{ProjectFault}

@@ -7,3 +7,4 @@ pub mod Order
 pub mod Outcome
 pub mod Keys
 pub mod Views
+pub mod WellMade

@@ -1,7 +1,7 @@
 -- What the reading of a project file answers.
 use Rattle.std.specs.Prelude.{◌≡◌, ℕ, List, Option, Some, None}
 use Rattle.std.specs.Str.{IsUtf8}
-use Rattle.toml.specs.Data.{Data, Members, table}
+use Rattle.toml.specs.Data.{Members, table}
 use Rattle.toml.specs.Parse.{parse_document}
 use Rattle.cc_project.specs.Order.{shape_fault}
 use Rattle.cc_project.specs.Project.{Project, project_of}

@@ -1,8 +1,8 @@
 -- The rules J1 to J14 of a project file, each as a test of a value of the document, in words of its own.
-use Rattle.std.specs.Prelude.{ℕ, pos, Bool, true, false, ◌&&◌, not, nat_le, nat_lt, int_le, length, List, [], ◌∷◌, Option, codes}
+use Rattle.std.specs.Prelude.{ℕ, pos, Bool, false, ◌&&◌, nat_le, nat_lt, int_le, length, List, [], ◌∷◌, Option, codes}
 use Rattle.std.specs.List.{list_all}
 use Rattle.std.specs.Ordering.{int_eq}
-use Rattle.toml.specs.Data.{Data, string, integer, array, item, no_items}
+use Rattle.toml.specs.Data.{Data, integer, array}
 use Rattle.cc_project.specs.Names.{is_name, is_file_name, is_requirement, is_function_name, is_new}
 use Rattle.cc_project.specs.Values.{is_any, is_text, is_integer, is_table, is_text_that, is_there, is_missing_or, is_array, has_only, list_of, text_in}
 

@@ -1,6 +1,6 @@
 -- What a value of a document says. A value may be missing, and may be of another kind than the one that is asked for: the
 -- rules say that it isn't, so what is read of it then doesn't matter.
-use Rattle.std.specs.Prelude.{ℕ, ℤ, pos, negsuc, Bool, true, false, ◌&&◌, nat_le, int_le, length, List, [], ◌∷◌, map, Option, Some, None}
+use Rattle.std.specs.Prelude.{ℕ, ℤ, pos, Bool, true, false, ◌&&◌, nat_le, length, List, [], ◌∷◌, map, Option, Some, None}
 use Rattle.std.specs.List.{list_all}
 use Rattle.toml.specs.Data.{Data, Items, Members, string, integer, array, table, item, no_items, member, no_members}
 use Rattle.cc_project.specs.Names.{is_among}

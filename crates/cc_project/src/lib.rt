@@ -13,6 +13,8 @@ mod project;
 mod reader;
 mod seen;
 mod shape;
+#[cfg(test)]
+mod tests;
 mod value;
 
 pub use fault::{Key, ProjectFault};

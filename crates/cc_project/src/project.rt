@@ -54,5 +54,9 @@ impl Model for Project {
 
     ghost Value = { Content };
 
+    ghost use Rattle.cc_project.specs.WellMade.{IsWellMade};
+
     ghost view = { λ p. record { components = p.components; files = p.files; entries = p.entries; environment = p.environment; tests = p.tests } };
+
+    ghost invariant = { λ p. IsWellMade (record { components = p.components; files = p.files; entries = p.entries; environment = p.environment; tests = p.tests }) };
 }

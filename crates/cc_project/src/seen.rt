@@ -46,8 +46,8 @@ impl<'a> Seen<'a> {
         !self.texts.contains(text)
     }
 
-    #[tactic(auto, using(crate::proofs::Texts::any_of_texts))]
     /// Adds the text if it is none of these, and tells whether it was none.
+    #[tactic(auto, using(crate::proofs::Texts::any_of_texts))]
     pub fn add(&mut self, text: &'a str) -> Result<bool, Memory>
         ensures value { IfOk result (λ added. added ≡ is_new self.old text.now) }
         ensures after { IfOk result (λ added. self.new ≡ (if added then self.old ++ text.now ∷ [] else self.old)) }

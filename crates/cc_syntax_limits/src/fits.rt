@@ -160,8 +160,10 @@ pub fn declarator_fits<N>(d: &Declarator<N>, most: u32) -> bool
     match d {
         Declarator::Name(_, _) | Declarator::Nameless => true,
         Declarator::Pointer(_, _, d) => declarator_fits(d.get(), inside),
-        Declarator::Array(_, d, length) => declarator_fits(d.get(), inside) && option_fits(length, inside),
-        Declarator::Func(_, d, ps) => declarator_fits(d.get(), inside) && types_fit(ps.as_slice(), inside),
+        Declarator::Array(_, d, length) => declarator_fits(d.get(), inside)
+            && option_fits(length, inside),
+        Declarator::Func(_, d, ps) => declarator_fits(d.get(), inside)
+            && types_fit(ps.as_slice(), inside),
         Declarator::Paren(_, d) => declarator_fits(d.get(), inside),
     }
 }

@@ -4,5 +4,7 @@
 #![tactic(auto)]
 
 mod fits;
+#[cfg(test)]
+mod tests;
 
 pub use fits::{declarator_fits, expr_fits, specs_fit, type_fits};

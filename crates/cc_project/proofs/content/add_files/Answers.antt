@@ -1,5 +1,4 @@
-use Rattle.std.proofs.Common.{[], ◌∷◌, ◌++◌, List, ℕ, ap, ◌∙◌}
-use Rattle.cc_project.specs.declared.project.ProjectFile.{ProjectFile}
+use Rattle.std.proofs.Common.{ap, ◌∙◌}
 use Rattle.cc_project.proofs.Copies.{files_more, files_all, one_file}
 use Rattle.cc_project.proofs.content.add_files.Goals as goal
 

@@ -1,12 +1,10 @@
-use Rattle.std.proofs.Common.{◌≡◌, true, codes, [], map, refl, sym, ap, ◌∙◌}
-use Rattle.cc_project.specs.Keys.{field_text}
-use Rattle.cc_project.specs.Places.{item_key, member_key}
+use Rattle.std.proofs.Common.{map, refl, sym, ap, ◌∙◌}
+use Rattle.cc_project.specs.Places.{item_key}
 use Rattle.cc_project.specs.Rules as rule
-use Rattle.cc_project.specs.Values.{text_of, text_in, items_in, texts_in, is_integer}
-use Rattle.cc_project.specs.Order.{at, at_each, at_each_new, array_rules, new_array_rules, component_rules, components_rules, test_rules, tests_rules, rules_of, first_failing, shape_fault}
-use Rattle.cc_project.specs.Views.{test_of, data_in}
-use Rattle.cc_project.proofs.Firsts.{passed_up, at-holds, Reports-same, fails_at_1, fails_at_2, fails_at_3, fails_at_4, fails_at_5, fails_at_6, fails_at_7, fails_last_2, fails_last_5, fails_last_6, fails_last_8, all_hold_2, all_hold_5, all_hold_6, all_hold_8}
-use Rattle.cc_project.proofs.Turns.{moved, moved_items, moved_array, moved_new, grown, test_name_holds}
+use Rattle.cc_project.specs.Values.{text_of, text_in, items_in}
+use Rattle.cc_project.specs.Order.{component_rules}
+use Rattle.cc_project.proofs.Firsts.{passed_up, at-holds, Reports-same, fails_at_1, fails_at_2, fails_at_3, fails_at_4, fails_last_5, all_hold_5}
+use Rattle.cc_project.proofs.Turns.{moved, moved_array, moved_new, grown}
 use Rattle.cc_project.proofs.shape.check_component.Goals as goal
 
 pub returns-in_err-demand_of-clause-err : goal.returns-in_err-demand_of-clause-err

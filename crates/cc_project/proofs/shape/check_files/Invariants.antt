@@ -1,4 +1,4 @@
-use Rattle.std.proofs.Common.{◌≡◌, ◌++◌, drop, codes}
+use Rattle.std.proofs.Common.{◌≡◌, ◌++◌, drop}
 use Rattle.cc_project.specs.Order.{at_each_new, first_failing}
 use Rattle.cc_project.specs.Views.{texts_of}
 use Rattle.cc_project.specs.Keys.{field_text}

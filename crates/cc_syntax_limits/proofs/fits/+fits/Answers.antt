@@ -1,4 +1,4 @@
-use Rattle.std.proofs.Common.{rules, ◌≡◌, ◌≤◌, ◌↔◌, ◌∷◌, ◌+◌, ◌∙◌, refl, sym, max, drop, arith}
+use Rattle.std.proofs.Common.{rules, ◌≡◌, ◌≤◌, ◌↔◌, ◌∷◌, ◌+◌, ◌∙◌, sym, max, drop, arith}
 use Rattle.cc_syntax.specs.Views.{view, view_type, view_spec, view_member, view_constant, view_declarator, exprs_of, types_of, specs_of, members_of, constants_of, declarators_of}
 use Rattle.cc_syntax.specs.Depth as spec
 use Rattle.cc_syntax.specs.declared.expr.Expr.{the_lemmas}

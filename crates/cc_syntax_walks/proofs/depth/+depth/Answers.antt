@@ -1,18 +1,11 @@
-use Rattle.std.proofs.Common.{◌≡◌, ◌∷◌, ◌+◌, max, drop, arith}
-use Rattle.std.proofs.lemmas.Grind.{common_steps}
+use Rattle.std.proofs.Common.{refl}
 use Rattle.cc_syntax.specs.Views.{view, view_type, exprs_of, types_of}
 use Rattle.cc_syntax.specs.Depth as spec
-use Rattle.cc_syntax_walks.proofs.Rest.{rest_at}
+use Rattle.cc_syntax_walks.proofs.Loops.{greatest_next}
 use Rattle.cc_syntax_walks.proofs.depth.+depth.Goals as goal
 
 pub exprs_depth-loop-e-preserved : goal.exprs_depth-loop-e-preserved
-exprs_depth-loop-e-preserved g t c =
-    let e : drop c.loop-e.e-index c.args.es.now ≡ c.e-item.result ∷ drop (c.loop-e.e-index + 1) c.args.es.now = rest_at _ _ _ c.loop-e-test.true c.e-item.is in
-    let i : max c.loop-e.deepest (max (spec.expr_depth (view c.e-item.result)) (spec.exprs_depth (exprs_of (drop (c.loop-e.e-index + 1) c.args.es.now)))) ≡ spec.exprs_depth (exprs_of c.args.es.now) = rw e at c.loop-e.invariant in
-    grind (arith, common_steps)
+exprs_depth-loop-e-preserved g t c = greatest_next (λ es. spec.exprs_depth (exprs_of es)) (λ e. spec.expr_depth (view e)) (λ e es. refl) c.args.es.now c.loop-e.e-index c.loop-e.deepest c.loop-e.invariant c.e-item.result _ _ c.loop-e-test.true c.e-item.is c.expr_depth.ensures c.max-deepest.ensures
 
 pub types_depth-loop-t-preserved : goal.types_depth-loop-t-preserved
-types_depth-loop-t-preserved g t c =
-    let e : drop c.loop-t.t-index c.args.ts.now ≡ c.t-item.result ∷ drop (c.loop-t.t-index + 1) c.args.ts.now = rest_at _ _ _ c.loop-t-test.true c.t-item.is in
-    let i : max c.loop-t.deepest (max (spec.type_depth (view_type c.t-item.result)) (spec.types_depth (types_of (drop (c.loop-t.t-index + 1) c.args.ts.now)))) ≡ spec.types_depth (types_of c.args.ts.now) = rw e at c.loop-t.invariant in
-    grind (arith, common_steps)
+types_depth-loop-t-preserved g t c = greatest_next (λ ts. spec.types_depth (types_of ts)) (λ t. spec.type_depth (view_type t)) (λ t ts. refl) c.args.ts.now c.loop-t.t-index c.loop-t.deepest c.loop-t.invariant c.t-item.result _ _ c.loop-t-test.true c.t-item.is c.type_depth.ensures c.max-deepest.ensures

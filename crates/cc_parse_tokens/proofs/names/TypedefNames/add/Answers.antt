@@ -1,4 +1,4 @@
-use Rattle.std.proofs.Common.{◌≡◌, sym, ap, map, ◌∙◌}
+use Rattle.std.proofs.Common.{ap, map, ◌∙◌}
 use Rattle.std.specs.String.{string_bytes}
 use Rattle.cc_grammar.specs.Names.{added}
 use Rattle.cc_parse_tokens.proofs.NameLists.{added_string}
