@@ -1,5 +1,5 @@
 -- The loop of the code beside the recursion of the definition: what goes on behind an expression makes it deeper.
-use Rattle.std.proofs.Common.{◌≡◌, ◌≤◌, ◌<◌, ◌+◌, ◌-◌, refl, ℕ, zero, suc, max, Bool, true, false, List, Result, Ok, Err, arith, sym, ap, ◌∙◌, ◌&&◌, nat_le, nat_lt}
+use Rattle.std.proofs.Common.{◌≡◌, ◌≤◌, ◌<◌, ◌+◌, ◌-◌, refl, ℕ, zero, suc, true, false, List, Ok, Err, arith, sym, ap, ◌∙◌, ◌&&◌, nat_le, nat_lt}
 use Rattle.std.proofs.lemmas.Bool.{and_parts, ltb-true}
 use Rattle.cc_tree.specs.declared.place.Spot.{Spot}
 use Rattle.cc_lex.specs.declared.token.Token.{Token}
@@ -12,7 +12,7 @@ use Rattle.cc_grammar.specs.Levels.{level, binary_level}
 use Rattle.cc_grammar.specs.Names.{Names}
 use Rattle.cc_grammar.specs.Outlines.{begins}
 use Rattle.cc_grammar.specs.Classes.{skip, spot, Tail, goes_binary, goes_assign, goes_question, goes_comma, goes_call, goes_index, goes_dot, goes_arrow, goes_step, ends_here, tail, binds, left_level}
-use Rattle.cc_grammar.specs.Outcomes.{Outcome, Parser, and_then, take, ◌>>=◌, ◌>>◌, pure, ◌<$>◌}
+use Rattle.cc_grammar.specs.Outcomes.{Outcome, Parser, and_then, take, ◌>>◌, pure, ◌<$>◌}
 use Rattle.cc_grammar.specs.Reading.{Inner, id, arguments, go_on, goes_on, climb}
 
 -- the tree that an outcome has, if it has one, is deeper than the number
@@ -25,8 +25,8 @@ done a = Ok a
 made : (x y : ExprTree Spot) (m r : List Token) (o : Outcome (ExprTree Spot)) → o ≡ Ok (x, m) → o ≡ Ok (y, r) → x ≡ y
 made x y m r o e f = ap (λ q. q.0) (same_pair (x, m) (y, r) (sym e ∙ f))
   where
-  same_pair : (a b : ExprTree Spot × List Token) → done a ≡ done b → a ≡ b
-  same_pair a b h = cc
+    same_pair : (a b : ExprTree Spot × List Token) → done a ≡ done b → a ≡ b
+    same_pair a b h = cc
 
 deep_map : {A : Type 0} (n : ℕ) (f : A → ExprTree Spot) → ((a : A) → n < expr_depth (f a)) → (o : Outcome A) → Deep n (and_then o (λ a s. Ok (f a, s)))
 deep_map n f h (Ok y) x r e = let same : f y.0 ≡ x = made (f y.0) x y.1 r _ refl e in omega (arith, h y.0, ap expr_depth same)
@@ -42,7 +42,7 @@ module _ (names : Names) (inner : Inner) (d : ℕ) where
   go_on_deep left (goes_assign op) n ts = deep_map _ (assign n op left) (λ b. omega arith) (inner.expr 2 ts)
   go_on_deep left goes_question n ts =
       deep_bind _ (λ a. take p.Colon >> (choice n left a <$> inner.expr 3))
-        (λ a s. deep_bind _ (λ _. choice n left a <$> inner.expr 3) (λ _ m. deep_map _ (choice n left a) (λ b. omega arith) (inner.expr 3 m)) (take p.Colon s)) (inner.expr 1 ts)
+      (λ a s. deep_bind _ (λ _. choice n left a <$> inner.expr 3) (λ _ m. deep_map _ (choice n left a) (λ b. omega arith) (inner.expr 3 m)) (take p.Colon s)) (inner.expr 1 ts)
   go_on_deep left goes_comma n ts = deep_map _ (comma n left) (λ b. omega arith) (inner.expr 2 ts)
   go_on_deep left goes_call n ts = deep_map _ (λ es. call (begins left) left (gathered es)) (λ b. omega arith) (arguments names inner d ts)
   go_on_deep left goes_index n ts =

@@ -1,7 +1,7 @@
 -- The readers of what stands inside are those one level deeper.
-use Rattle.std.proofs.Common.{◌≡◌, ◌<◌, ◌-◌, refl, ℕ, zero, suc, arith, sym, ap, subst}
+use Rattle.std.proofs.Common.{◌≡◌, ◌<◌, ◌-◌, refl, ℕ, zero, suc, arith, sym, ap}
 use Rattle.cc_grammar.specs.Names.{Names}
-use Rattle.cc_grammar.specs.Reading.{Inner, readers, opened}
+use Rattle.cc_grammar.specs.Reading.{readers, opened}
 use Rattle.cc_parse_expr.specs.Modes.{inner_at}
 
 pub inner_is : (names : Names) (d : ℕ) → 0 < d → inner_at names d ≡ readers names (d - 1)

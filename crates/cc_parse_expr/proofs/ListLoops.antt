@@ -1,10 +1,10 @@
 -- The loops that read lists, beside the lists turn by turn: what was read so far, and what a turn gives.
-use Rattle.std.proofs.Common.{◌≡◌, ◌<◌, ◌≤◌, ◌+◌, ◌-◌, refl, ℕ, zero, suc, Bool, true, false, List, [], ◌∷◌, ◌++◌, map, length, Result, Ok, Err, arith, sym, ap, ◌∙◌}
-use Rattle.std.proofs.lemmas.List.{map_push}
+use Rattle.std.proofs.Common.{◌≡◌, ◌<◌, ◌≤◌, ◌+◌, ◌-◌, refl, ℕ, suc, Bool, true, false, List, [], ◌∷◌, ◌++◌, map, length, Ok, Err, arith, sym, ap, ◌∙◌}
+use Rattle.std.proofs.lemmas.List.{map_push, map-id}
 use Rattle.cc_lex.specs.declared.token.Token.{Token}
 use Rattle.cc_lex.specs.declared.punct.Punct.TheVariants as p
 use Rattle.cc_grammar.specs.Classes.{next_is, skip}
-use Rattle.cc_grammar.specs.Outcomes.{Outcome, Parser, and_then}
+use Rattle.cc_grammar.specs.Outcomes.{Outcome, Parser}
 use Rattle.cc_grammar.specs.Reading.{separated, repeated}
 use Rattle.cc_parse_tokens.specs.Turns.{separated_from, repeated_from}
 use Rattle.cc_parse_tokens.proofs.ByTurns.{separated_is, repeated_is}
@@ -12,6 +12,9 @@ use Rattle.cc_parse_tokens.proofs.Turns.{one_more, no_more}
 
 abbrev pub done : {A : Type 0} → A → List Token → Outcome A
 done a r = Ok (a, r)
+
+pub unmapped : {A : Type 0} (xs : List A) (r : List Token) → done (map (λ x. x) xs) r ≡ done xs r
+unmapped xs r = ap (λ zs. done zs r) (map-id xs)
 
 pushed : {A B : Type 0} (view : A → B) (xs : List A) (x : A) (r : List Token) → done (map view xs ++ view x ∷ []) r ≡ done (map view (xs ++ x ∷ [])) r
 pushed view xs x r = ap (λ zs. done zs r) (sym (map_push view xs x))

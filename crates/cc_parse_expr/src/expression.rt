@@ -22,8 +22,7 @@ impl<
     E: Fn(Global, &mut Cursor<'_>, &TypedefNames, u32, u8) -> Result<Expr<Spot>, Fault>,
     S: Fn(Global, &mut Cursor<'_>, &TypedefNames, u32) -> Result<Items<Spec<Spot>>, Fault>,
     D: Fn(Global, &mut Cursor<'_>, &TypedefNames, u32, Mode) -> Result<Declarator<Spot>, Fault>,
-> Grammar<'n, E, S, D>
-{
+> Grammar<'n, E, S, D> {
     /// Whether `left` goes on with the next token. One that is refused for the depth alone is marked.
     fn goes_on(&self, tokens: &mut Cursor<'_>, least: u8, left: &Expr<Spot>) -> bool
         requires room { 0 < self.now.depth }
@@ -42,7 +41,12 @@ impl<
     }
 
     /// Goes on behind `first` as long as a token binds it, which is of this level at least (C17 6.5).
-    fn climb(&self, tokens: &mut Cursor<'_>, least: u8, first: Expr<Spot>) -> Result<Expr<Spot>, Fault>
+    fn climb(
+        &self,
+        tokens: &mut Cursor<'_>,
+        least: u8,
+        first: Expr<Spot>,
+    ) -> Result<Expr<Spot>, Fault>
         requires room { 0 < self.now.depth }
         requires nests { NestsExpr self.now.depth (E.pre self.now.expr) (E.post self.now.expr) }
         ensures { Gives view (spec.climb self.now.names.now (inner_at self.now.names.now self.now.depth) self.now.depth least self.now.depth (view first) tokens.old) result tokens.new }

@@ -25,8 +25,7 @@ impl<
     E: Fn(Global, &mut Cursor<'_>, &TypedefNames, u32, u8) -> Result<Expr<Spot>, Fault>,
     S: Fn(Global, &mut Cursor<'_>, &TypedefNames, u32) -> Result<Items<Spec<Spot>>, Fault>,
     D: Fn(Global, &mut Cursor<'_>, &TypedefNames, u32, Mode) -> Result<Declarator<Spot>, Fault>,
-> Grammar<'n, E, S, D>
-{
+> Grammar<'n, E, S, D> {
     /// Whether the next token begins an expression. A typedef name doesn't.
     pub fn begins_expression(&self, tokens: &Cursor<'_>) -> bool {
         tokens.start() != Start::Nothing && !tokens.starts_spec(self.names)
@@ -94,7 +93,12 @@ impl<
     }
 
     /// What is cast to a type, behind the `)`, with the `)`.
-    fn cast_operand(&self, tokens: &mut Cursor<'_>, to: TypeName<Spot>, note: Spot) -> Result<Expr<Spot>, Fault>
+    fn cast_operand(
+        &self,
+        tokens: &mut Cursor<'_>,
+        to: TypeName<Spot>,
+        note: Spot,
+    ) -> Result<Expr<Spot>, Fault>
         requires room { 0 < self.now.depth }
         requires nests_expr { NestsExpr self.now.depth (E.pre self.now.expr) (E.post self.now.expr) }
         ensures { Gives view (branch.cast_operand (inner_at self.now.names.now self.now.depth) (view_type to) note tokens.old) result tokens.new }
@@ -116,7 +120,12 @@ impl<
     }
 
     /// A form that a `(` begins: a cast where a specifier comes and the level leaves room for one (C17 6.5.1, 6.5.4).
-    fn parenthesized(&self, tokens: &mut Cursor<'_>, least: u8, note: Spot) -> Result<Expr<Spot>, Fault>
+    fn parenthesized(
+        &self,
+        tokens: &mut Cursor<'_>,
+        least: u8,
+        note: Spot,
+    ) -> Result<Expr<Spot>, Fault>
         requires room { 0 < self.now.depth }
         requires nests_expr { NestsExpr self.now.depth (E.pre self.now.expr) (E.post self.now.expr) }
         requires nests_specs { NestsSpecs self.now.depth (S.pre self.now.specs) (S.post self.now.specs) }
@@ -182,7 +191,12 @@ impl<
     }
 
     /// What `++` or `--` stands before, with the operator (C17 6.5.3.1).
-    fn stepped_first(&self, tokens: &mut Cursor<'_>, op: StepOp, note: Spot) -> Result<Expr<Spot>, Fault>
+    fn stepped_first(
+        &self,
+        tokens: &mut Cursor<'_>,
+        op: StepOp,
+        note: Spot,
+    ) -> Result<Expr<Spot>, Fault>
         requires room { 0 < self.now.depth }
         requires nests_expr { NestsExpr self.now.depth (E.pre self.now.expr) (E.post self.now.expr) }
         ensures { Gives view (branch.stepping (inner_at self.now.names.now self.now.depth) op note tokens.old) result tokens.new }

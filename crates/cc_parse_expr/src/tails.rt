@@ -27,8 +27,7 @@ impl<
     E: Fn(Global, &mut Cursor<'_>, &TypedefNames, u32, u8) -> Result<Expr<Spot>, Fault>,
     S: Fn(Global, &mut Cursor<'_>, &TypedefNames, u32) -> Result<Items<Spec<Spot>>, Fault>,
     D: Fn(Global, &mut Cursor<'_>, &TypedefNames, u32, Mode) -> Result<Declarator<Spot>, Fault>,
-> Grammar<'n, E, S, D>
-{
+> Grammar<'n, E, S, D> {
     /// The arguments behind a `(`, with the `)` (C17 6.5.2).
     fn arguments(&self, tokens: &mut Cursor<'_>) -> Result<Items<Expr<Spot>>, Fault>
         requires room { 0 < self.now.depth }
@@ -62,7 +61,13 @@ impl<
     }
 
     /// The right operand of a binary operator (C17 6.5.5 to 6.5.14).
-    fn operated(&self, tokens: &mut Cursor<'_>, left: Expr<Spot>, op: BinaryOp, note: Spot) -> Result<Expr<Spot>, Fault>
+    fn operated(
+        &self,
+        tokens: &mut Cursor<'_>,
+        left: Expr<Spot>,
+        op: BinaryOp,
+        note: Spot,
+    ) -> Result<Expr<Spot>, Fault>
         requires room { 0 < self.now.depth }
         requires nests { NestsExpr self.now.depth (E.pre self.now.expr) (E.post self.now.expr) }
         ensures { Gives view (spec.go_on self.now.names.now (inner_at self.now.names.now self.now.depth) self.now.depth (view left) (class.goes_binary op) note tokens.old) result tokens.new }
@@ -72,7 +77,13 @@ impl<
     }
 
     /// What is assigned (C17 6.5.16).
-    fn assigned(&self, tokens: &mut Cursor<'_>, left: Expr<Spot>, op: AssignOp, note: Spot) -> Result<Expr<Spot>, Fault>
+    fn assigned(
+        &self,
+        tokens: &mut Cursor<'_>,
+        left: Expr<Spot>,
+        op: AssignOp,
+        note: Spot,
+    ) -> Result<Expr<Spot>, Fault>
         requires room { 0 < self.now.depth }
         requires nests { NestsExpr self.now.depth (E.pre self.now.expr) (E.post self.now.expr) }
         ensures { Gives view (spec.go_on self.now.names.now (inner_at self.now.names.now self.now.depth) self.now.depth (view left) (class.goes_assign op) note tokens.old) result tokens.new }
@@ -82,7 +93,12 @@ impl<
     }
 
     /// The two choices behind a `?` (C17 6.5.15).
-    fn chosen(&self, tokens: &mut Cursor<'_>, left: Expr<Spot>, note: Spot) -> Result<Expr<Spot>, Fault>
+    fn chosen(
+        &self,
+        tokens: &mut Cursor<'_>,
+        left: Expr<Spot>,
+        note: Spot,
+    ) -> Result<Expr<Spot>, Fault>
         requires room { 0 < self.now.depth }
         requires nests { NestsExpr self.now.depth (E.pre self.now.expr) (E.post self.now.expr) }
         ensures { Gives view (spec.go_on self.now.names.now (inner_at self.now.names.now self.now.depth) self.now.depth (view left) class.goes_question note tokens.old) result tokens.new }
@@ -92,7 +108,13 @@ impl<
     }
 
     /// The choice behind a `:`, with the `:`.
-    fn chosen_else(&self, tokens: &mut Cursor<'_>, test: Expr<Spot>, yes: Expr<Spot>, note: Spot) -> Result<Expr<Spot>, Fault>
+    fn chosen_else(
+        &self,
+        tokens: &mut Cursor<'_>,
+        test: Expr<Spot>,
+        yes: Expr<Spot>,
+        note: Spot,
+    ) -> Result<Expr<Spot>, Fault>
         requires room { 0 < self.now.depth }
         requires nests { NestsExpr self.now.depth (E.pre self.now.expr) (E.post self.now.expr) }
         ensures { Gives view (branch.choosing (inner_at self.now.names.now self.now.depth) (view test) (view yes) note tokens.old) result tokens.new }
@@ -103,7 +125,12 @@ impl<
     }
 
     /// What follows a comma (C17 6.5.17).
-    fn sequenced(&self, tokens: &mut Cursor<'_>, left: Expr<Spot>, note: Spot) -> Result<Expr<Spot>, Fault>
+    fn sequenced(
+        &self,
+        tokens: &mut Cursor<'_>,
+        left: Expr<Spot>,
+        note: Spot,
+    ) -> Result<Expr<Spot>, Fault>
         requires room { 0 < self.now.depth }
         requires nests { NestsExpr self.now.depth (E.pre self.now.expr) (E.post self.now.expr) }
         ensures { Gives view (spec.go_on self.now.names.now (inner_at self.now.names.now self.now.depth) self.now.depth (view left) class.goes_comma note tokens.old) result tokens.new }
@@ -123,7 +150,12 @@ impl<
     }
 
     /// The index behind a `[`, with the `]` (C17 6.5.2.1).
-    fn indexed(&self, tokens: &mut Cursor<'_>, left: Expr<Spot>, note: Spot) -> Result<Expr<Spot>, Fault>
+    fn indexed(
+        &self,
+        tokens: &mut Cursor<'_>,
+        left: Expr<Spot>,
+        note: Spot,
+    ) -> Result<Expr<Spot>, Fault>
         requires room { 0 < self.now.depth }
         requires nests { NestsExpr self.now.depth (E.pre self.now.expr) (E.post self.now.expr) }
         ensures { Gives view (spec.go_on self.now.names.now (inner_at self.now.names.now self.now.depth) self.now.depth (view left) class.goes_index note tokens.old) result tokens.new }
@@ -134,7 +166,12 @@ impl<
     }
 
     /// The member behind a `.` (C17 6.5.2.3).
-    fn selected(&self, tokens: &mut Cursor<'_>, left: Expr<Spot>, note: Spot) -> Result<Expr<Spot>, Fault>
+    fn selected(
+        &self,
+        tokens: &mut Cursor<'_>,
+        left: Expr<Spot>,
+        note: Spot,
+    ) -> Result<Expr<Spot>, Fault>
         ensures { Gives view (spec.go_on self.now.names.now (inner_at self.now.names.now self.now.depth) self.now.depth (view left) class.goes_dot note tokens.old) result tokens.new }
     {
         let name = identifier(self.alloc, tokens, self.names)?;
@@ -142,7 +179,12 @@ impl<
     }
 
     /// The member behind a `->` (C17 6.5.2.3).
-    fn selected_behind(&self, tokens: &mut Cursor<'_>, left: Expr<Spot>, note: Spot) -> Result<Expr<Spot>, Fault>
+    fn selected_behind(
+        &self,
+        tokens: &mut Cursor<'_>,
+        left: Expr<Spot>,
+        note: Spot,
+    ) -> Result<Expr<Spot>, Fault>
         ensures { Gives view (spec.go_on self.now.names.now (inner_at self.now.names.now self.now.depth) self.now.depth (view left) class.goes_arrow note tokens.old) result tokens.new }
     {
         let name = identifier(self.alloc, tokens, self.names)?;
@@ -150,14 +192,26 @@ impl<
     }
 
     /// `++` or `--` behind an expression (C17 6.5.2.4).
-    fn stepped(&self, tokens: &mut Cursor<'_>, left: Expr<Spot>, op: StepOp, note: Spot) -> Result<Expr<Spot>, Fault>
+    fn stepped(
+        &self,
+        tokens: &mut Cursor<'_>,
+        left: Expr<Spot>,
+        op: StepOp,
+        note: Spot,
+    ) -> Result<Expr<Spot>, Fault>
         ensures { Gives view (spec.go_on self.now.names.now (inner_at self.now.names.now self.now.depth) self.now.depth (view left) (class.goes_step op) note tokens.old) result tokens.new }
     {
         Ok(step(self.alloc, note, op, Side::After, left)?)
     }
 
     /// What goes on behind an expression, after its token (C17 6.5.2 to 6.5.17).
-    pub fn go_on(&self, tokens: &mut Cursor<'_>, left: Expr<Spot>, tail: Tail, note: Spot) -> Result<Expr<Spot>, Fault>
+    pub fn go_on(
+        &self,
+        tokens: &mut Cursor<'_>,
+        left: Expr<Spot>,
+        tail: Tail,
+        note: Spot,
+    ) -> Result<Expr<Spot>, Fault>
         requires room { 0 < self.now.depth }
         requires nests { NestsExpr self.now.depth (E.pre self.now.expr) (E.post self.now.expr) }
         ensures { Gives view (spec.go_on self.now.names.now (inner_at self.now.names.now self.now.depth) self.now.depth (view left) (tail_of tail) note tokens.old) result tokens.new }

@@ -1,4 +1,3 @@
-use Rattle.std.proofs.Common.{◌≡◌}
 use Rattle.cc_syntax.specs.Views.{view}
 use Rattle.cc_grammar.specs.Reading as spec
 use Rattle.cc_parse_expr.specs.Modes.{inner_at}

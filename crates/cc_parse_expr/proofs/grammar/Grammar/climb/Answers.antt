@@ -1,4 +1,4 @@
-use Rattle.std.proofs.Common.{◌≡◌, refl, arith}
+use Rattle.std.proofs.Common.{refl, arith}
 use Rattle.std.proofs.lemmas.Result.{err_from_is_err_and}
 use Rattle.cc_grammar.specs.Reading as spec
 use Rattle.cc_syntax.specs.Views.{view}
@@ -15,21 +15,21 @@ returns-in_err-left g c =
     let inner = inner_at names c.args.self.now.depth in
     let p = err_from_is_err_and c.from_residual.result c.from_residual.ensures.1 in
     rw (p.1, p.2) (λ s. climb_fails names inner c.args.self.now.depth c.args.least (spec.climb names inner c.args.self.now.depth c.args.least c.args.self.now.depth (view c.args.first) c.args.tokens.now) (view c.loop-tokens.left) c.loop-tokens.tokens c.loop-tokens.invariant c.loop-tokens-test.ensures.answer c.go_on.new.tokens
-      (rw (c.tail-tail.ensures, c.spot-note.ensures, c.skip.ensures, c.goes_on.ensures.stays) at (c.in_err-left.ensures s)))
+    (rw (c.tail-tail.ensures, c.spot-note.ensures, c.skip.ensures, c.goes_on.ensures.stays) at (c.in_err-left.ensures s)))
 
 pub loop-tokens-smaller : goal.loop-tokens-smaller
 loop-tokens-smaller g c =
     let names = c.args.self.now.names.now in
     let inner = inner_at names c.args.self.now.depth in
     climb_deeper names inner c.args.self.now.depth c.args.least (spec.climb names inner c.args.self.now.depth c.args.least c.args.self.now.depth (view c.args.first) c.args.tokens.now) (view c.loop-tokens.left) c.loop-tokens.tokens c.loop-tokens-test.ensures.answer (view c.in_ok-left.left) c.go_on.new.tokens
-      (rw (c.tail-tail.ensures, c.spot-note.ensures, c.skip.ensures, c.goes_on.ensures.stays) at c.in_ok-left.ensures)
+    (rw (c.tail-tail.ensures, c.spot-note.ensures, c.skip.ensures, c.goes_on.ensures.stays) at c.in_ok-left.ensures)
 
 pub loop-tokens-preserved : goal.loop-tokens-preserved
 loop-tokens-preserved g c =
     let names = c.args.self.now.names.now in
     let inner = inner_at names c.args.self.now.depth in
     climb_goes names inner c.args.self.now.depth c.args.least (spec.climb names inner c.args.self.now.depth c.args.least c.args.self.now.depth (view c.args.first) c.args.tokens.now) (view c.loop-tokens.left) c.loop-tokens.tokens c.loop-tokens.invariant c.loop-tokens-test.ensures.answer (view c.in_ok-left.left) c.go_on.new.tokens
-      (rw (c.tail-tail.ensures, c.spot-note.ensures, c.skip.ensures, c.goes_on.ensures.stays) at c.in_ok-left.ensures)
+    (rw (c.tail-tail.ensures, c.spot-note.ensures, c.skip.ensures, c.goes_on.ensures.stays) at c.in_ok-left.ensures)
 
 pub returns : goal.returns
 returns g c =

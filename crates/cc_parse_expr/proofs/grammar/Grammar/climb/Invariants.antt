@@ -1,4 +1,4 @@
-use Rattle.std.proofs.Common.{◌≡◌, ◌-◌}
+use Rattle.std.proofs.Common.{◌-◌}
 use Rattle.cc_grammar.specs.Reading as spec
 use Rattle.cc_syntax.specs.Depth.{expr_depth}
 use Rattle.cc_syntax.specs.Views.{view}

@@ -1,12 +1,10 @@
-use Rattle.std.proofs.Common.{◌≡◌, ℕ, List, Result, Ok, ap, sym, ◌∙◌}
-use Rattle.std.proofs.lemmas.List.{map-id}
+use Rattle.std.proofs.Common.{ℕ, List, [], ◌∷◌, ◌++◌, ◌∙◌}
 use Rattle.std.proofs.lemmas.Result.{err_from_is_err_and}
 use Rattle.cc_lex.specs.declared.token.Token.{Token}
 use Rattle.cc_grammar.specs.Classes.{next_literal}
 use Rattle.cc_grammar.specs.Reading as spec
 use Rattle.cc_parse_expr.specs.Modes.{inner_at}
-use Rattle.cc_grammar.specs.Outcomes.{Outcome}
-use Rattle.cc_parse_expr.proofs.ListLoops.{done, repeating, repeated_fails, repeated_ends, repeated_goes, repeated_over}
+use Rattle.cc_parse_expr.proofs.ListLoops.{unmapped, repeating, repeated_fails, repeated_ends, repeated_goes, repeated_over}
 use Rattle.cc_parse_expr.proofs.grammar.Grammar.literals.Goals as goal
 
 pub loop-turn-init : goal.loop-turn-init
@@ -35,7 +33,7 @@ returns-then-not-has_literal g c =
     let inner = inner_at names d in
     let one = λ (ts : List Token). spec.literal_by names inner d (next_literal ts) ts in
     let more = λ (ts : List Token). spec.is_literal names inner d (next_literal ts) in
-    rw c.in_ok-push.ensures.ok (repeated_ends (λ (x : List ℕ). x) more one (spec.literals names inner d c.args.tokens.now) c.len-turn-end.result c.loop-turn._turn c.loop-turn.found c.loop-turn.tokens c.loop-turn-test.true c.loop-turn.invariant c.in_ok-literal.field-0 c.literal.new.tokens c.in_ok-literal.ensures c.if-not-has_literal.ensures ∙ ap (λ xs. done xs c.literal.new.tokens) (map-id _))
+    rw c.in_ok-push.ensures.ok (repeated_ends (λ (x : List ℕ). x) more one (spec.literals names inner d c.args.tokens.now) c.len-turn-end.result c.loop-turn._turn c.loop-turn.found c.loop-turn.tokens c.loop-turn-test.true c.loop-turn.invariant c.in_ok-literal.field-0 c.literal.new.tokens c.in_ok-literal.ensures c.if-not-has_literal.ensures ∙ unmapped (c.loop-turn.found ++ c.in_ok-literal.field-0 ∷ []) c.literal.new.tokens)
 
 pub loop-turn-preserved : goal.loop-turn-preserved
 loop-turn-preserved g c =

@@ -1,4 +1,4 @@
-use Rattle.std.proofs.Common.{◌≡◌, ℕ, List}
+use Rattle.std.proofs.Common.{ℕ, List}
 use Rattle.cc_lex.specs.declared.token.Token.{Token}
 use Rattle.cc_grammar.specs.Classes.{next_literal}
 use Rattle.cc_grammar.specs.Reading as spec

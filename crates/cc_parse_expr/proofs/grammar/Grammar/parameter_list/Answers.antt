@@ -1,4 +1,3 @@
-use Rattle.std.proofs.Common.{◌≡◌}
 use Rattle.std.proofs.lemmas.Result.{err_from_is_err_and}
 use Rattle.cc_syntax.specs.Views.{view_type}
 use Rattle.cc_grammar.specs.Reading as spec
