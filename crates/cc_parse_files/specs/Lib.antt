@@ -1,4 +1,0 @@
-pub mod Nests
-pub mod Parts
-pub mod Turns
-pub mod Views
