@@ -1,4 +1,0 @@
-pub mod Branches
-pub mod Modes
-pub mod Nests
-pub mod Parts
