@@ -3,8 +3,8 @@
 
 ghost use Rattle.cc_arith.specs.Laws.{ConversionKeepsValues, ConversionGivesValues, ConversionKeepsLowBits, PromotionPromotes, PromotionKeepsValues, CommonIsPromoted, CommonIsSymmetric, BinaryGivesValues, UnaryGivesValues, ComparisonGivesTruth, NotGivesTruth, ValueHasItsBits, BitsGiveTheValue, ComplementIsMinusOneLess, DivisionRebuilds, RemainderIsSmall, RemainderHasTheSignOfTheDividend, RightShiftRoundsDown};
 
-/// A conversion gives a value of the kind, keeps what is one already, and keeps the low bits of any other
-/// (C17 6.3.1.3).
+/// A conversion gives a value of the kind, keeps what is one already, and to any kind but `Bool` keeps the low bits
+/// of any other (C17 6.3.1.2, 6.3.1.3).
 pub fn conversion_laws()
     ensures gives_values { ConversionGivesValues }
     ensures keeps_values { ConversionKeepsValues }

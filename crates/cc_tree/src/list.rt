@@ -39,6 +39,13 @@ impl<T> List<T> {
         self.items.len() as u64
     }
 
+    /// The items, in order. Takes no memory.
+    pub fn as_slice(&self) -> &[T]
+        ensures { result.now ≡ self.now }
+    {
+        &self.items
+    }
+
     /// Item `i`, counted from 0. Takes no memory.
     pub fn get(&self, i: u64) -> &T
         requires { i < length self.now }
@@ -73,6 +80,7 @@ mod tests {
         }
         assert_eq!(rt; list.len(), 2);
         assert_eq!(rt; list.get(1).bytes(), b"two".as_slice());
+        assert_eq!(rt; list.as_slice().len(), 2);
         Ok(())
     }
 }
