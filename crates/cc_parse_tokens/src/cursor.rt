@@ -1,9 +1,10 @@
 // The tokens that are left.
-ghost use Rattle.std.specs.Prelude.{◌≡◌, ◌<◌, ◌^◌, length, option_map};
+ghost use Rattle.std.specs.Prelude.{◌≡◌, ◌≢◌, ◌<◌, ◌^◌, length, option_map, Err};
 ghost use Rattle.cc_grammar.specs.Classes as grammar;
 ghost use Rattle.cc_grammar.specs.Outcomes as spec;
 ghost use Rattle.cc_parse_tokens.specs.Classes.{class_of_start, class_of_spec, tail_of, stmt_of, integer_of, character_of};
 ghost use Rattle.cc_parse_tokens.specs.Gives.{Gives};
+ghost use Rattle.cc_parse_tokens.specs.declared.fault.Fault.TheVariants.{Memory};
 ghost use Rattle.cc_lex.specs.declared.token.TokenKind.TheVariants as kind;
 
 use crate::class::{SpecStart, Start, StmtStart, Tail};
@@ -113,7 +114,8 @@ impl<'a> Cursor<'a> {
 
     /// Takes this punctuator.
     pub fn take(&mut self, sign: Punct) -> Result<(), Fault>
-        ensures { Gives (λ _. tt) (spec.take sign self.old) result self.new }
+        ensures gives { Gives (λ _. tt) (spec.take sign self.old) result self.new }
+        ensures no_memory { result ≢ Err Memory }
     {
         if self.next_is(sign) {
             self.skip();
@@ -125,7 +127,8 @@ impl<'a> Cursor<'a> {
 
     /// Takes this keyword.
     pub fn take_key(&mut self, word: Keyword) -> Result<(), Fault>
-        ensures { Gives (λ _. tt) (spec.take_key word self.old) result self.new }
+        ensures gives { Gives (λ _. tt) (spec.take_key word self.old) result self.new }
+        ensures no_memory { result ≢ Err Memory }
     {
         if self.next_is_key(word) {
             self.skip();

@@ -1,0 +1,10 @@
+use Rattle.cc_syntax.specs.Views.{view_declarator}
+use Rattle.cc_grammar.specs.Reading as spec
+use Rattle.cc_parse_expr.specs.Modes.{inner_at}
+use Rattle.cc_parse_expr.proofs.ListLoops.{Separating}
+use Rattle.cc_parse_expr.proofs.grammar.Grammar.member_declarators.Given as goal
+
+abbrev pub invariant-loop-turn : goal.invariant-loop-turn
+invariant-loop-turn g l =
+    let one = (inner_at l.fn.self.names.now l.fn.self.depth).declarator spec.with_name in
+    Separating view_declarator one (spec.separated one l.initial.tokens) l._turn-end l._turn l.found l.tokens

@@ -1,0 +1,4 @@
+pub mod Branches
+pub mod Modes
+pub mod Nests
+pub mod Parts

@@ -1,0 +1,16 @@
+-- The modes of declarators, and the readers of what stands inside.
+use Rattle.std.specs.Prelude.{ℕ, zero, suc}
+use Rattle.cc_grammar.specs.Names.{Names}
+use Rattle.cc_grammar.specs.Reading as spec
+use Rattle.cc_parse_expr.specs.declared.mode.Mode.{Mode}
+use Rattle.cc_parse_expr.specs.declared.mode.Mode.TheVariants as m
+
+abbrev pub mode_of : Mode → spec.Mode
+mode_of m.Named = spec.with_name
+mode_of m.Abstract = spec.without_name
+mode_of m.Either = spec.with_or_without
+
+-- the readers of what stands in a counted node, where that may be as deep as the number
+abbrev pub inner_at : Names → ℕ → spec.Inner
+inner_at names zero = spec.no_inner
+inner_at names (suc d) = spec.readers names d

@@ -1,0 +1,80 @@
+// Expressions, by climbing their levels.
+ghost use Rattle.std.specs.Prelude.{◌≡◌, ◌<◌};
+ghost use Rattle.cc_grammar.specs.Classes as class;
+ghost use Rattle.cc_grammar.specs.Reading as spec;
+ghost use Rattle.cc_syntax.specs.Views.{view};
+ghost use Rattle.cc_parse_tokens.specs.Gives.{Gives};
+ghost use Rattle.cc_parse_expr.specs.Modes.{inner_at};
+ghost use Rattle.cc_parse_expr.specs.Nests.{NestsExpr, NestsSpecs, NestsDeclarator};
+
+use crate::grammar::Grammar;
+use crate::mode::Mode;
+use crate::shape::level;
+use cc_parse_tokens::{Cursor, Fault, TypedefNames, binds, left_level};
+use cc_syntax::{Declarator, Expr, Spec};
+use cc_syntax_limits::expr_fits;
+use cc_tree::Spot;
+use sqlite_items::Items;
+use std::alloc::Global;
+
+impl<
+    'n,
+    E: Fn(Global, &mut Cursor<'_>, &TypedefNames, u32, u8) -> Result<Expr<Spot>, Fault>,
+    S: Fn(Global, &mut Cursor<'_>, &TypedefNames, u32) -> Result<Items<Spec<Spot>>, Fault>,
+    D: Fn(Global, &mut Cursor<'_>, &TypedefNames, u32, Mode) -> Result<Declarator<Spot>, Fault>,
+> Grammar<'n, E, S, D> {
+    /// Whether `left` goes on with the next token. One that is refused for the depth alone is marked.
+    fn goes_on(&self, tokens: &mut Cursor<'_>, least: u8, left: &Expr<Spot>) -> bool
+        requires room { 0 < self.now.depth }
+        ensures answer { result ≡ spec.goes_on self.now.names.now (inner_at self.now.names.now self.now.depth) self.now.depth least (view left.now) (class.tail tokens.old) }
+        ensures stays { tokens.new ≡ tokens.old }
+    {
+        let tail = tokens.tail();
+        if least > binds(tail) || left_level(tail) > level(left) {
+            return false;
+        }
+        if expr_fits(left, self.depth - 1) {
+            return true;
+        }
+        tokens.mark();
+        false
+    }
+
+    /// Goes on behind `first` as long as a token binds it, which is of this level at least (C17 6.5).
+    fn climb(
+        &self,
+        tokens: &mut Cursor<'_>,
+        least: u8,
+        first: Expr<Spot>,
+    ) -> Result<Expr<Spot>, Fault>
+        requires room { 0 < self.now.depth }
+        requires nests { NestsExpr self.now.depth (E.pre self.now.expr) (E.post self.now.expr) }
+        ensures { Gives view (spec.climb self.now.names.now (inner_at self.now.names.now self.now.depth) self.now.depth least self.now.depth (view first) tokens.old) result tokens.new }
+    {
+        let mut left = first;
+        while self.goes_on(tokens, least, &left) {
+            let tail = tokens.tail();
+            let note = tokens.spot();
+            tokens.skip();
+            left = self.go_on(tokens, left, tail, note)?;
+        }
+        Ok(left)
+    }
+
+    /// An expression of this level at least (C17 6.5).
+    pub fn expression(&self, tokens: &mut Cursor<'_>, least: u8) -> Result<Expr<Spot>, Fault>
+        requires nests_expr { 0 < self.now.depth → NestsExpr self.now.depth (E.pre self.now.expr) (E.post self.now.expr) }
+        requires nests_specs { 0 < self.now.depth → NestsSpecs self.now.depth (S.pre self.now.specs) (S.post self.now.specs) }
+        requires nests_declarator { 0 < self.now.depth → NestsDeclarator self.now.depth (D.pre self.now.declarator) (D.post self.now.declarator) }
+        ensures { Gives view (spec.expression self.now.names.now (inner_at self.now.names.now self.now.depth) self.now.depth least tokens.old) result tokens.new }
+    {
+        if self.depth == 0 {
+            if self.begins_expression(tokens) {
+                tokens.mark();
+            }
+            return Err(Fault::Refused);
+        }
+        let first = self.prefix(tokens, least)?;
+        self.climb(tokens, least, first)
+    }
+}

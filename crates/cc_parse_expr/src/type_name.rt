@@ -1,0 +1,74 @@
+// Type names and parameters.
+ghost use Rattle.std.specs.Prelude.{◌<◌, map};
+ghost use Rattle.cc_grammar.specs.Reading as spec;
+ghost use Rattle.cc_syntax.specs.Views.{view_type};
+ghost use Rattle.cc_parse_tokens.specs.Gives.{Gives};
+ghost use Rattle.cc_parse_expr.specs.Modes.{mode_of, inner_at};
+ghost use Rattle.cc_parse_expr.specs.Nests.{NestsExpr, NestsSpecs, NestsDeclarator};
+
+use crate::grammar::Grammar;
+use crate::mode::Mode;
+use cc_lex::Punct;
+use cc_parse_tokens::{Cursor, Fault, TypedefNames};
+use cc_syntax::{Declarator, Expr, Spec, TypeName};
+use cc_tree::Spot;
+use sqlite_items::Items;
+use std::alloc::Global;
+
+impl<
+    'n,
+    E: Fn(Global, &mut Cursor<'_>, &TypedefNames, u32, u8) -> Result<Expr<Spot>, Fault>,
+    S: Fn(Global, &mut Cursor<'_>, &TypedefNames, u32) -> Result<Items<Spec<Spot>>, Fault>,
+    D: Fn(Global, &mut Cursor<'_>, &TypedefNames, u32, Mode) -> Result<Declarator<Spot>, Fault>,
+> Grammar<'n, E, S, D> {
+    /// A type name, or a parameter: specifiers, then a declarator (C17 6.7.6.3, 6.7.7).
+    pub fn typed(&self, tokens: &mut Cursor<'_>, mode: Mode) -> Result<TypeName<Spot>, Fault>
+        requires room { 0 < self.now.depth }
+        requires nests_specs { NestsSpecs self.now.depth (S.pre self.now.specs) (S.post self.now.specs) }
+        requires nests_declarator { NestsDeclarator self.now.depth (D.pre self.now.declarator) (D.post self.now.declarator) }
+        ensures { Gives view_type (spec.typed self.now.names.now (inner_at self.now.names.now self.now.depth) self.now.depth (mode_of mode) tokens.old) result tokens.new }
+    {
+        let note = tokens.spot();
+        let specs = self.inner_specs(tokens)?;
+        let declarator = self.inner_declarator(tokens, mode)?;
+        Ok(TypeName {
+            note,
+            specs,
+            declarator,
+        })
+    }
+
+    /// The parameters behind a `(`, with the `)` (C17 6.7.6.3).
+    pub fn parameters(&self, tokens: &mut Cursor<'_>) -> Result<Items<TypeName<Spot>>, Fault>
+        requires room { 0 < self.now.depth }
+        requires nests_specs { NestsSpecs self.now.depth (S.pre self.now.specs) (S.post self.now.specs) }
+        requires nests_declarator { NestsDeclarator self.now.depth (D.pre self.now.declarator) (D.post self.now.declarator) }
+        ensures { Gives (map view_type) (spec.parameters self.now.names.now (inner_at self.now.names.now self.now.depth) self.now.depth tokens.old) result tokens.new }
+    {
+        if tokens.next_is(Punct::RightParen) {
+            tokens.skip();
+            return Ok(Items::new(self.alloc));
+        }
+        let found = self.parameter_list(tokens)?;
+        tokens.take(Punct::RightParen)?;
+        Ok(found)
+    }
+
+    /// Parameters, one at least, with commas between them.
+    fn parameter_list(&self, tokens: &mut Cursor<'_>) -> Result<Items<TypeName<Spot>>, Fault>
+        requires room { 0 < self.now.depth }
+        requires nests_specs { NestsSpecs self.now.depth (S.pre self.now.specs) (S.post self.now.specs) }
+        requires nests_declarator { NestsDeclarator self.now.depth (D.pre self.now.declarator) (D.post self.now.declarator) }
+        ensures { Gives (map view_type) (spec.separated (spec.typed self.now.names.now (inner_at self.now.names.now self.now.depth) self.now.depth spec.with_or_without) tokens.old) result tokens.new }
+    {
+        let mut found = Items::new(self.alloc);
+        for _turn in 0..tokens.len() {
+            found.push(self.typed(tokens, Mode::Either)?)?;
+            if !tokens.next_is(Punct::Comma) {
+                return Ok(found);
+            }
+            tokens.skip();
+        }
+        Err(Fault::Refused)
+    }
+}

@@ -1,0 +1,5 @@
+pub mod Externals
+pub mod ExternalTurns
+pub mod FirstTokens
+pub mod InitTurns
+pub mod ItemTurns

@@ -1,0 +1,21 @@
+-- What is asked of the function that reads statements inside: it gives what the reader one level deeper gives, and leaves the
+-- typedef names that stand behind the statement.
+use Rattle.std.specs.Prelude.{◌≡◌, ℕ, List, Result, IfOk}
+use Rattle.std.specs.declared.alloc.Global.{Global}
+use denote.Ref.{MutBor}
+use Rattle.cc_tree.specs.declared.place.Spot.{Spot}
+use Rattle.cc_lex.specs.declared.token.Token.{Token}
+use Rattle.cc_syntax.specs.declared.stmt.Stmt.{Stmt}
+use Rattle.cc_syntax.specs.Views.{view_stmt}
+use Rattle.cc_grammar.specs.Names.{Names, after_stmt}
+use Rattle.cc_grammar.specs.Reading.{stmt}
+use Rattle.cc_parse_tokens.specs.declared.fault.Fault.{Fault}
+use Rattle.cc_parse_tokens.specs.Gives.{Gives}
+
+pub record NestsStmt (depth : ℕ) (pre : Global → MutBor (List Token) → MutBor Names → ℕ → Type 0)
+    (post : Global → MutBor (List Token) → MutBor Names → ℕ → Result (Stmt Spot) Fault → MutBor (List Token) → MutBor Names → Type 0) : Type 0 where
+  pub callable : (alloc : Global) (old : MutBor (List Token)) (names : MutBor Names) → pre alloc old names depth
+  pub gives : (alloc : Global) (old new : MutBor (List Token)) (names after : MutBor Names) (r : Result (Stmt Spot) Fault) → post alloc old names depth r new after
+      → Gives view_stmt (stmt depth names.now old.now) r new.now
+  pub after : (alloc : Global) (old new : MutBor (List Token)) (names after : MutBor Names) (r : Result (Stmt Spot) Fault) → post alloc old names depth r new after
+      → IfOk r (λ s. after.now ≡ after_stmt (view_stmt s) names.now)
