@@ -21,13 +21,13 @@ next_declarator d typedef turns again names i found (Err r) = refl
 
 behind_value : (d : ℕ) (typedef : Bool) (turns : ℕ) → Same d typedef turns → (names : Names) (i : InitTree Spot) (found : List (InitTree Spot)) (us : List Token) (b : Bool)
     → branch b (skipping ((readers names d).declarator with_name >>= (λ f. inits_from d typedef turns names f (found ++ i ∷ [])))) (pure (found ++ i ∷ [])) us
-      ≡ before found (branch b (skipping ((readers names d).declarator with_name >>= (λ f. (λ is. i ∷ is) <$> inits_behind d typedef turns names f))) (pure (i ∷ [])) us)
+    ≡ before found (branch b (skipping ((readers names d).declarator with_name >>= (λ f. (λ is. i ∷ is) <$> inits_behind d typedef turns names f))) (pure (i ∷ [])) us)
 behind_value d typedef turns again names i found us true = next_declarator d typedef turns again names i found ((readers names d).declarator with_name (skip us))
 behind_value d typedef turns again names i found us false = refl
 
 with_value : (d : ℕ) (typedef : Bool) (turns : ℕ) → Same d typedef turns → (names : Names) (e : DeclTree Spot) (found : List (InitTree Spot)) (o : Outcome (Option (ValueTree Spot)))
     → and_then o (λ v. where_next (next_is p.Comma) (skipping ((readers names d).declarator with_name >>= (λ f. inits_from d typedef turns names f (found ++ init e v ∷ [])))) (pure (found ++ init e v ∷ [])))
-      ≡ before found (and_then o (λ v. where_next (next_is p.Comma) (skipping ((readers names d).declarator with_name >>= (λ f. (λ is. init e v ∷ is) <$> inits_behind d typedef turns names f))) (pure (init e v ∷ []))))
+    ≡ before found (and_then o (λ v. where_next (next_is p.Comma) (skipping ((readers names d).declarator with_name >>= (λ f. (λ is. init e v ∷ is) <$> inits_behind d typedef turns names f))) (pure (init e v ∷ []))))
 with_value d typedef turns again names e found (Ok y) = behind_value d typedef turns again names (init e y.0) found y.1 (next_is p.Comma y.1)
 with_value d typedef turns again names e found (Err r) = refl
 

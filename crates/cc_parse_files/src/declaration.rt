@@ -94,7 +94,10 @@ pub fn inits(
     for _turn in 0..tokens.len() + 1 {
         declare(alloc, names, typedef, &next)?;
         let value = given(alloc, tokens, names, depth)?;
-        found.push(Init { declarator: next, value })?;
+        found.push(Init {
+            declarator: next,
+            value,
+        })?;
         if !tokens.next_is(Punct::Comma) {
             return Ok(found);
         }
@@ -118,7 +121,11 @@ pub fn declaration(
     let specs = specs(alloc, tokens, names, depth)?;
     if tokens.next_is(Punct::Semicolon) {
         tokens.skip();
-        return Ok(Declaration { note: spot, specs, inits: Items::new(alloc) });
+        return Ok(Declaration {
+            note: spot,
+            specs,
+            inits: Items::new(alloc),
+        });
     }
     declared(alloc, tokens, names, depth, spot, specs)
 }
@@ -138,5 +145,9 @@ fn declared(
     let typedef = has_typedef(specs.as_slice());
     let inits = inits(alloc, tokens, names, depth, typedef, first)?;
     tokens.take(Punct::Semicolon)?;
-    Ok(Declaration { note: spot, specs, inits })
+    Ok(Declaration {
+        note: spot,
+        specs,
+        inits,
+    })
 }

@@ -61,12 +61,18 @@ fn values(
         values.push(value(alloc, tokens, names, depth)?)?;
         if !tokens.next_is(Punct::Comma) {
             tokens.take(Punct::RightBrace)?;
-            return Ok(Braced { values, trailing: false });
+            return Ok(Braced {
+                values,
+                trailing: false,
+            });
         }
         tokens.skip();
         if tokens.next_is(Punct::RightBrace) {
             tokens.skip();
-            return Ok(Braced { values, trailing: true });
+            return Ok(Braced {
+                values,
+                trailing: true,
+            });
         }
     }
     Err(Fault::Refused)

@@ -10,5 +10,5 @@ returns-in_err-value c =
     let p = err_from_is_err_and c.from_residual.result c.from_residual.ensures.1 in
     let comes : next_is punct.Equal c.args.tokens.now ≡ true = sym c.next_is.ensures ∙ c.if-next_is.true in
     rw (p.1, p.2) (λ s.
-      let fails : spec.value c.args.names.now c.args.depth (skip c.args.tokens.now) ≡ Err c.value.new.tokens = ap (spec.value c.args.names.now c.args.depth) (sym c.skip.ensures) ∙ c.in_err-value.ensures s in
-      rw (comes, fails) refl)
+    let fails : spec.value c.args.names.now c.args.depth (skip c.args.tokens.now) ≡ Err c.value.new.tokens = ap (spec.value c.args.names.now c.args.depth) (sym c.skip.ensures) ∙ c.in_err-value.ensures s in
+    rw (comes, fails) refl)

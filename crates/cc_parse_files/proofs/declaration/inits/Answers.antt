@@ -32,7 +32,7 @@ pub returns-then-not-next_is-clause-after : goal.returns-then-not-next_is-clause
 returns-then-not-next_is-clause-after c =
     let pushed : map view_init c.push.new.self ≡ map view_init c.loop-turn.found ++ init (view_declarator c.loop-turn.next) (option_map view_value c.in_ok-value.value) ∷ [] = rw c.in_ok-push.ensures.ok (map_push view_init c.loop-turn.found (record { declarator = c.loop-turn.next; value = c.in_ok-value.value })) in
     rw pushed (c.in_ok-declare.ensures.ok ∙ ap (typedefs.after_declarator c.args.typedef (view_declarator c.loop-turn.next)) c.loop-turn.invariant.names
-      ∙ sym (after_push c.args.typedef (map view_init c.loop-turn.found) (view_declarator c.loop-turn.next) (option_map view_value c.in_ok-value.value) c.args.names.now))
+    ∙ sym (after_push c.args.typedef (map view_init c.loop-turn.found) (view_declarator c.loop-turn.next) (option_map view_value c.in_ok-value.value) c.args.names.now))
 
 pub returns-in_err-next-clause-gives : goal.returns-in_err-next-clause-gives
 returns-in_err-next-clause-gives c =
@@ -47,7 +47,7 @@ loop-turn-preserved c =
     record {
       reads = rw pushed (e ∙ goes_on c.args.depth c.args.typedef _ c.loop-turn.names c.declare.new.names (view_declarator c.loop-turn.next) (map view_init c.loop-turn.found) c.loop-turn.tokens c.in_ok-declare.ensures.ok (option_map view_value c.in_ok-value.value) c.given.new.tokens c.declarator.new.tokens (view_declarator c.in_ok-next.next) c.in_ok-value.ensures (sym c.next_is.ensures ∙ c.if-not-next_is.false) (rw c.skip.ensures at c.in_ok-next.ensures));
       names = rw pushed (c.in_ok-declare.ensures.ok ∙ ap (typedefs.after_declarator c.args.typedef (view_declarator c.loop-turn.next)) c.loop-turn.invariant.names
-        ∙ sym (after_push c.args.typedef (map view_init c.loop-turn.found) (view_declarator c.loop-turn.next) (option_map view_value c.in_ok-value.value) c.args.names.now));
+          ∙ sym (after_push c.args.typedef (map view_init c.loop-turn.found) (view_declarator c.loop-turn.next) (option_map view_value c.in_ok-value.value) c.args.names.now));
     }
 
 pub returns-clause-gives : goal.returns-clause-gives

@@ -7,7 +7,7 @@ use Rattle.cc_parse_files.proofs.declaration.inits.Given as goal
 
 abbrev pub invariant-loop-turn : goal.invariant-loop-turn
 invariant-loop-turn l = record {
-    reads : spec.inits l.fn.depth l.fn.typedef l.fn.names (view_declarator l.fn.first) l.fn.tokens
+  reads : spec.inits l.fn.depth l.fn.typedef l.fn.names (view_declarator l.fn.first) l.fn.tokens
       ≡ inits_from l.fn.depth l.fn.typedef (l._turn-end - l._turn) l.names (view_declarator l.next) (map view_init l.found) l.tokens;
-    names : l.names ≡ typedefs.after_inits l.fn.typedef (map view_init l.found) l.fn.names;
-  }
+  names : l.names ≡ typedefs.after_inits l.fn.typedef (map view_init l.found) l.fn.names;
+}

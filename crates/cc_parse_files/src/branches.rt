@@ -1,0 +1,140 @@
+// `if` and `switch` (C17 6.8.4).
+ghost use Rattle.std.specs.Prelude.{◌≡◌, List, IfOk, Err};
+ghost use Rattle.cc_parse_files.specs.Parts as parts;
+ghost use Rattle.cc_grammar.specs.Names as typedefs;
+ghost use Rattle.cc_grammar.specs.Reading as spec;
+ghost use Rattle.cc_syntax.specs.Views.{view, view_stmt, view_block};
+ghost use Rattle.cc_parse_tokens.specs.Gives.{Gives};
+ghost use Rattle.cc_parse_files.specs.Nests.{NestsStmt};
+ghost use Rattle.cc_grammar.specs.Names.{Names};
+ghost use Rattle.cc_lex.specs.declared.token.Token.{Token as TokenValue};
+ghost use Rattle.cc_parse_tokens.specs.declared.fault.Fault.TheVariants.{Refused};
+
+use crate::statement::Statements;
+use cc_lex::{Keyword, Punct};
+use cc_parse_tokens::{Cursor, Fault, TypedefNames};
+use cc_syntax::{Block, Expr, Stmt};
+use cc_tree::Spot;
+use sqlite_items::Boxed;
+use std::alloc::Global;
+
+impl<
+    F: Fn(Global, &mut Cursor<'_>, &mut TypedefNames, u32) -> Result<Stmt<Spot>, Fault>,
+> Statements<F> {
+    /// A statement inside, in a box.
+    pub fn boxed(
+        &self,
+        tokens: &mut Cursor<'_>,
+        names: &mut TypedefNames,
+    ) -> Result<Boxed<Stmt<Spot>>, Fault>
+        requires nests { NestsStmt self.now.depth (F.pre self.now.read) (F.post self.now.read) }
+        ensures gives { Gives view_stmt (spec.stmt self.now.depth names.old tokens.old) result tokens.new }
+        ensures after { IfOk result (λ s. names.new ≡ typedefs.after_stmt (view_stmt s) names.old) }
+    {
+        let found = self.inside(tokens, names)?;
+        Ok(Boxed::new(self.alloc, found)?)
+    }
+
+    /// `if` behind the word.
+    pub fn if_statement(
+        &self,
+        tokens: &mut Cursor<'_>,
+        names: &mut TypedefNames,
+        spot: Spot,
+    ) -> Result<Stmt<Spot>, Fault>
+        requires nests { NestsStmt self.now.depth (F.pre self.now.read) (F.post self.now.read) }
+        ensures gives { Gives view_stmt (parts.if_at self.now.depth names.old spot tokens.old) result tokens.new }
+        ensures after { IfOk result (λ s. names.new ≡ typedefs.after_stmt (view_stmt s) names.old) }
+    {
+        let test = self.condition(tokens, names)?;
+        self.branches(tokens, names, spot, test)
+    }
+
+    /// `if` behind its condition.
+    pub fn branches(
+        &self,
+        tokens: &mut Cursor<'_>,
+        names: &mut TypedefNames,
+        spot: Spot,
+        test: Expr<Spot>,
+    ) -> Result<Stmt<Spot>, Fault>
+        requires nests { NestsStmt self.now.depth (F.pre self.now.read) (F.post self.now.read) }
+        ensures gives { Gives view_stmt (parts.branches self.now.depth names.old spot (view test) tokens.old) result tokens.new }
+        ensures after { IfOk result (λ s. names.new ≡ typedefs.after_stmt (view_stmt s) names.old) }
+    {
+        let yes = self.boxed(tokens, names)?;
+        if tokens.next_is_key(Keyword::Else) {
+            tokens.skip();
+            self.with_else(tokens, names, spot, test, yes)
+        } else {
+            Ok(Stmt::If(spot, test, yes))
+        }
+    }
+
+    /// `if` behind its word `else`.
+    pub fn with_else(
+        &self,
+        tokens: &mut Cursor<'_>,
+        names: &mut TypedefNames,
+        spot: Spot,
+        test: Expr<Spot>,
+        yes: Boxed<Stmt<Spot>>,
+    ) -> Result<Stmt<Spot>, Fault>
+        requires nests { NestsStmt self.now.depth (F.pre self.now.read) (F.post self.now.read) }
+        ensures gives { Gives view_stmt (parts.else_at self.now.depth names.old spot (view test) (view_stmt yes) tokens.old) result tokens.new }
+        ensures after { IfOk result (λ s. (before : Names) → names.old ≡ typedefs.after_stmt (view_stmt yes) before → names.new ≡ typedefs.after_stmt (view_stmt s) before) }
+    {
+        let no = self.boxed(tokens, names)?;
+        Ok(Stmt::IfElse(spot, test, yes, no))
+    }
+
+    /// `switch` behind the word.
+    pub fn switch_statement(
+        &self,
+        tokens: &mut Cursor<'_>,
+        names: &mut TypedefNames,
+        spot: Spot,
+    ) -> Result<Stmt<Spot>, Fault>
+        requires nests { NestsStmt self.now.depth (F.pre self.now.read) (F.post self.now.read) }
+        ensures gives { Gives view_stmt (parts.switch_at self.now.depth names.old spot tokens.old) result tokens.new }
+        ensures after { IfOk result (λ s. names.new ≡ typedefs.after_stmt (view_stmt s) names.old) }
+    {
+        let test = self.condition(tokens, names)?;
+        let body = self.body(tokens, names)?;
+        Ok(Stmt::Switch(spot, test, body))
+    }
+
+    /// A statement inside that is a block.
+    pub fn body(
+        &self,
+        tokens: &mut Cursor<'_>,
+        names: &mut TypedefNames,
+    ) -> Result<Block<Spot>, Fault>
+        requires nests { NestsStmt self.now.depth (F.pre self.now.read) (F.post self.now.read) }
+        ensures gives { Gives view_block (spec.body (spec.stmt self.now.depth) self.now.depth names.old tokens.old) result tokens.new }
+        ensures after { IfOk result (λ b. names.new ≡ typedefs.after_block (view_block b) names.old) }
+    {
+        if !tokens.next_is(Punct::LeftBrace) {
+            return Err(Fault::Refused);
+        }
+        let found = self.inside(tokens, names)?;
+        only_block(found)
+    }
+}
+
+/// The block that a statement is.
+fn only_block(found: Stmt<Spot>) -> Result<Block<Spot>, Fault>
+    ensures { (ts : List TokenValue) → Gives view_block (spec.only_block (view_stmt found) ts) result ts }
+{
+    match found {
+        Stmt::Block(block) => Ok(block),
+        other => refuse(other),
+    }
+}
+
+/// A statement where a block must stand.
+fn refuse(_: Stmt<Spot>) -> Result<Block<Spot>, Fault>
+    ensures { result ≡ Err Refused }
+{
+    Err(Fault::Refused)
+}

@@ -1,0 +1,162 @@
+// `while`, `do` and `for` (C17 6.8.5).
+ghost use Rattle.std.specs.Prelude.{◌≡◌, IfOk, option_map};
+ghost use Rattle.cc_parse_files.specs.Parts as parts;
+ghost use Rattle.cc_grammar.specs.Names as typedefs;
+ghost use Rattle.cc_grammar.specs.Reading as spec;
+ghost use Rattle.cc_syntax.specs.Views.{view, view_stmt, view_start};
+ghost use Rattle.cc_parse_tokens.specs.Gives.{Gives};
+ghost use Rattle.cc_parse_files.specs.Nests.{NestsStmt};
+ghost use Rattle.cc_grammar.specs.Names.{Names};
+
+use crate::declaration::declaration;
+use crate::statement::Statements;
+use cc_lex::{Keyword, Punct};
+use cc_parse_expr::expr;
+use cc_parse_tokens::{Cursor, Fault, TypedefNames};
+use cc_syntax::{Expr, ForStart, Stmt};
+use cc_syntax_make::{do_loop, for_loop, while_loop};
+use cc_tree::Spot;
+use std::alloc::Global;
+
+impl<
+    F: Fn(Global, &mut Cursor<'_>, &mut TypedefNames, u32) -> Result<Stmt<Spot>, Fault>,
+> Statements<F> {
+    /// `while` behind the word.
+    pub fn while_statement(
+        &self,
+        tokens: &mut Cursor<'_>,
+        names: &mut TypedefNames,
+        spot: Spot,
+    ) -> Result<Stmt<Spot>, Fault>
+        requires nests { NestsStmt self.now.depth (F.pre self.now.read) (F.post self.now.read) }
+        ensures gives { Gives view_stmt (parts.while_at self.now.depth names.old spot tokens.old) result tokens.new }
+        ensures after { IfOk result (λ s. names.new ≡ typedefs.after_stmt (view_stmt s) names.old) }
+    {
+        let test = self.condition(tokens, names)?;
+        let body = self.inside(tokens, names)?;
+        Ok(while_loop(self.alloc, spot, test, body)?)
+    }
+
+    /// `do` behind the word.
+    pub fn do_statement(
+        &self,
+        tokens: &mut Cursor<'_>,
+        names: &mut TypedefNames,
+        spot: Spot,
+    ) -> Result<Stmt<Spot>, Fault>
+        requires nests { NestsStmt self.now.depth (F.pre self.now.read) (F.post self.now.read) }
+        ensures gives { Gives view_stmt (parts.do_at self.now.depth names.old spot tokens.old) result tokens.new }
+        ensures after { IfOk result (λ s. names.new ≡ typedefs.after_stmt (view_stmt s) names.old) }
+    {
+        let body = self.inside(tokens, names)?;
+        self.do_behind(tokens, names, spot, body)
+    }
+
+    /// `do` behind its statement.
+    pub fn do_behind(
+        &self,
+        tokens: &mut Cursor<'_>,
+        names: &TypedefNames,
+        spot: Spot,
+        body: Stmt<Spot>,
+    ) -> Result<Stmt<Spot>, Fault>
+        ensures gives { Gives view_stmt (parts.do_behind self.now.depth names.now spot (view_stmt body) tokens.old) result tokens.new }
+        ensures same { IfOk result (λ s. (before : Names) → typedefs.after_stmt (view_stmt s) before ≡ typedefs.after_stmt (view_stmt body) before) }
+    {
+        tokens.take_key(Keyword::While)?;
+        let test = self.condition(tokens, names)?;
+        tokens.take(Punct::Semicolon)?;
+        Ok(do_loop(self.alloc, spot, body, test)?)
+    }
+
+    /// `for` behind the word.
+    pub fn for_statement(
+        &self,
+        tokens: &mut Cursor<'_>,
+        names: &mut TypedefNames,
+        spot: Spot,
+    ) -> Result<Stmt<Spot>, Fault>
+        requires nests { NestsStmt self.now.depth (F.pre self.now.read) (F.post self.now.read) }
+        ensures gives { Gives view_stmt (parts.for_at self.now.depth names.old spot tokens.old) result tokens.new }
+        ensures after { IfOk result (λ s. names.new ≡ typedefs.after_stmt (view_stmt s) names.old) }
+    {
+        tokens.take(Punct::LeftParen)?;
+        let start = self.start_clause(tokens, names)?;
+        self.for_behind(tokens, names, spot, start)
+    }
+
+    /// The first clause of a `for`, with its semicolon.
+    pub fn start_clause(
+        &self,
+        tokens: &mut Cursor<'_>,
+        names: &mut TypedefNames,
+    ) -> Result<ForStart<Spot>, Fault>
+        ensures gives { Gives view_start (spec.start_clause (spec.stmt self.now.depth) self.now.depth names.old tokens.old) result tokens.new }
+        ensures after { IfOk result (λ s. names.new ≡ typedefs.after_start (view_start s) names.old) }
+    {
+        if tokens.starts_spec(names) {
+            return self.start_declaration(tokens, names);
+        }
+        if tokens.next_is(Punct::Semicolon) {
+            tokens.skip();
+            return Ok(ForStart::Empty);
+        }
+        let first = expr(self.alloc, tokens, names, self.depth, 1)?;
+        tokens.take(Punct::Semicolon)?;
+        Ok(ForStart::Expr(first))
+    }
+
+    /// A declaration in a `for`, which counts.
+    pub fn start_declaration(
+        &self,
+        tokens: &mut Cursor<'_>,
+        names: &mut TypedefNames,
+    ) -> Result<ForStart<Spot>, Fault>
+        ensures gives { Gives view_start (parts.start_declares_at self.now.depth names.old tokens.old) result tokens.new }
+        ensures after { IfOk result (λ s. names.new ≡ typedefs.after_start (view_start s) names.old) }
+    {
+        let Some(inside) = self.depth.checked_sub(1) else {
+            tokens.mark();
+            return Err(Fault::Refused);
+        };
+        let found = declaration(self.alloc, tokens, names, inside)?;
+        Ok(ForStart::Decl(found))
+    }
+
+    /// `for` behind its first clause.
+    pub fn for_behind(
+        &self,
+        tokens: &mut Cursor<'_>,
+        names: &mut TypedefNames,
+        spot: Spot,
+        start: ForStart<Spot>,
+    ) -> Result<Stmt<Spot>, Fault>
+        requires nests { NestsStmt self.now.depth (F.pre self.now.read) (F.post self.now.read) }
+        ensures gives { Gives view_stmt (parts.for_rest self.now.depth names.old spot (view_start start) tokens.old) result tokens.new }
+        ensures after { IfOk result (λ s. (before : Names) → names.old ≡ typedefs.after_start (view_start start) before → names.new ≡ typedefs.after_stmt (view_stmt s) before) }
+    {
+        let test = self.clause(tokens, names, Punct::Semicolon)?;
+        tokens.take(Punct::Semicolon)?;
+        let each = self.clause(tokens, names, Punct::RightParen)?;
+        self.for_body(tokens, names, spot, start, test, each)
+    }
+
+    /// The closing parenthesis of a `for`, and its statement.
+    pub fn for_body(
+        &self,
+        tokens: &mut Cursor<'_>,
+        names: &mut TypedefNames,
+        spot: Spot,
+        start: ForStart<Spot>,
+        test: Option<Expr<Spot>>,
+        each: Option<Expr<Spot>>,
+    ) -> Result<Stmt<Spot>, Fault>
+        requires nests { NestsStmt self.now.depth (F.pre self.now.read) (F.post self.now.read) }
+        ensures gives { Gives view_stmt (parts.for_body self.now.depth names.old spot (view_start start) (option_map view test) (option_map view each) tokens.old) result tokens.new }
+        ensures after { IfOk result (λ s. (before : Names) → names.old ≡ typedefs.after_start (view_start start) before → names.new ≡ typedefs.after_stmt (view_stmt s) before) }
+    {
+        tokens.take(Punct::RightParen)?;
+        let body = self.inside(tokens, names)?;
+        Ok(for_loop(self.alloc, spot, start, test, each, body)?)
+    }
+}
