@@ -1,0 +1,12 @@
+// Why tokens are no file.
+
+/// Why tokens are no file of the grammar.
+#[derive(Clone, Copy, Debug, PartialEq, Eq)]
+pub enum ParseFault {
+    /// The tokens are none up to and with this one, counted from 0; at the end it is the number of tokens.
+    Syntax { token: u64 },
+    /// The same, where this token was refused for its depth alone.
+    TooDeep { token: u64 },
+    /// Memory was wanting. No clause says when.
+    Memory,
+}
