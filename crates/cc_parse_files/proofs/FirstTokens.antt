@@ -2,12 +2,13 @@
 use Rattle.std.proofs.Common.{◌≡◌, ℕ, List, refl, sym, ap, ◌∙◌}
 use Rattle.cc_tree.specs.declared.place.Spot.{Spot}
 use Rattle.cc_lex.specs.declared.token.Token.{Token}
-use Rattle.cc_grammar.specs.Classes.{spot, stmt_start}
+use Rattle.cc_grammar.specs.Classes.{skip, spot, stmt_start}
 use Rattle.cc_grammar.specs.Names.{Names}
 use Rattle.cc_grammar.specs.Reading.{stmt, stmt_by}
 use Rattle.cc_parse_tokens.specs.Classes.{stmt_of}
 use Rattle.cc_parse_tokens.specs.declared.class.StmtStart.{StmtStart}
 use Rattle.cc_parse_tokens.specs.declared.class.StmtStart.TheVariants as s
+use Rattle.cc_parse_files.proofs.Clauses.{for_is, return_is}
 use Rattle.cc_parse_files.specs.Parts.{first_at, stmt_at}
 
 by_class : (d : ℕ) (start : StmtStart) (names : Names) (n : Spot) (ts : List Token) → stmt_by (stmt d) d (stmt_of start) names n ts ≡ first_at d start names n ts
@@ -17,10 +18,10 @@ by_class d s.If names n ts = refl
 by_class d s.Switch names n ts = refl
 by_class d s.While names n ts = refl
 by_class d s.Do names n ts = refl
-by_class d s.For names n ts = refl
+by_class d s.For names n ts = for_is d names n (skip ts)
 by_class d s.Break names n ts = refl
 by_class d s.Continue names n ts = refl
-by_class d s.Return names n ts = refl
+by_class d s.Return names n ts = return_is d names n (skip ts)
 by_class d s.Case names n ts = refl
 by_class d s.Default names n ts = refl
 by_class d s.Other names n ts = refl

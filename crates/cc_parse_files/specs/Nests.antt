@@ -1,14 +1,15 @@
--- What is asked of the function that reads statements inside: it gives what the reader one level deeper gives, and leaves the
--- typedef names that stand behind the statement.
+-- What is asked of the functions that read statements and blocks inside: each gives what the reader one level deeper gives, and leaves the
+-- typedef names that stand behind it.
 use Rattle.std.specs.Prelude.{◌≡◌, ℕ, List, Result, IfOk}
 use Rattle.std.specs.declared.alloc.Global.{Global}
 use denote.Ref.{MutBor}
 use Rattle.cc_tree.specs.declared.place.Spot.{Spot}
 use Rattle.cc_lex.specs.declared.token.Token.{Token}
 use Rattle.cc_syntax.specs.declared.stmt.Stmt.{Stmt}
-use Rattle.cc_syntax.specs.Views.{view_stmt}
-use Rattle.cc_grammar.specs.Names.{Names, after_stmt}
-use Rattle.cc_grammar.specs.Reading.{stmt}
+use Rattle.cc_syntax.specs.declared.stmt.Block.{Block}
+use Rattle.cc_syntax.specs.Views.{view_stmt, view_block}
+use Rattle.cc_grammar.specs.Names.{Names, after_stmt, after_block}
+use Rattle.cc_grammar.specs.Reading.{stmt, body}
 use Rattle.cc_parse_tokens.specs.declared.fault.Fault.{Fault}
 use Rattle.cc_parse_tokens.specs.Gives.{Gives}
 
@@ -19,3 +20,11 @@ pub record NestsStmt (depth : ℕ) (pre : Global → MutBor (List Token) → Mut
       → Gives view_stmt (stmt depth names.now old.now) r new.now
   pub after : (alloc : Global) (old new : MutBor (List Token)) (names after : MutBor Names) (r : Result (Stmt Spot) Fault) → post alloc old names depth r new after
       → IfOk r (λ s. after.now ≡ after_stmt (view_stmt s) names.now)
+
+pub record NestsBlock (depth : ℕ) (pre : Global → MutBor (List Token) → MutBor Names → ℕ → Type 0)
+    (post : Global → MutBor (List Token) → MutBor Names → ℕ → Result (Block Spot) Fault → MutBor (List Token) → MutBor Names → Type 0) : Type 0 where
+  pub callable : (alloc : Global) (old : MutBor (List Token)) (names : MutBor Names) → pre alloc old names depth
+  pub gives : (alloc : Global) (old new : MutBor (List Token)) (names after : MutBor Names) (r : Result (Block Spot) Fault) → post alloc old names depth r new after
+      → Gives view_block (body (stmt depth) depth names.now old.now) r new.now
+  pub after : (alloc : Global) (old new : MutBor (List Token)) (names after : MutBor Names) (r : Result (Block Spot) Fault) → post alloc old names depth r new after
+      → IfOk r (λ b. after.now ≡ after_block (view_block b) names.now)

@@ -2,10 +2,11 @@
 use Rattle.std.specs.Prelude.{ℕ, List, Option}
 use Rattle.cc_tree.specs.declared.place.Spot.{Spot}
 use Rattle.cc_lex.specs.declared.keyword.Keyword.TheVariants as k
+use Rattle.cc_lex.specs.declared.punct.Punct.{Punct}
 use Rattle.cc_lex.specs.declared.punct.Punct.TheVariants as p
 use Rattle.cc_syntax.specs.Trees.{ExprTree, DeclTree, SpecTrees, DeclarationTree, declaration, StartTree, start_declaration, StmtTree, compound, empty, if_else, switch, while_loop, do_loop, for_loop, break, continue, return, plain, BlockTree, block, ItemTree, declares, does, ExternalTree, outer_declaration, definition}
 use Rattle.cc_syntax.specs.Views.{gathered_items}
-use Rattle.cc_grammar.specs.Classes.{next_is, spot, begins_case, begins_default, stmt_start}
+use Rattle.cc_grammar.specs.Classes.{next_is, skip, spot, begins_case, begins_default, stmt_start}
 use Rattle.cc_grammar.specs.Names.{Names, has_typedef, after_start, after_stmt}
 use Rattle.cc_grammar.specs.Outcomes.{Parser, ◌>>=◌, ◌>>◌, pure, ◌<$>◌, refuse, take, take_key}
 use Rattle.cc_parse_tokens.specs.declared.class.StmtStart.{StmtStart}
@@ -49,6 +50,10 @@ labelled_at d names = λ ts. label_by (stmt d) d (stmt_start ts) names (spot ts)
 abbrev pub block_behind : ℕ → Names → Spot → Parser (BlockTree Spot)
 block_behind d names n = (λ is. block n (gathered_items is)) <$> items (stmt d) d names
 
+-- a block from its brace on
+abbrev pub whole_block : ℕ → Names → Parser (BlockTree Spot)
+whole_block d names = λ ts. block_behind d names (spot ts) (skip ts)
+
 abbrev pub block_at : ℕ → Names → Spot → Parser (StmtTree Spot)
 block_at d names n = (λ is. compound (block n (gathered_items is))) <$> items (stmt d) d names
 
@@ -80,19 +85,25 @@ do_behind d names n s = take_key k.While >> condition (stmt d) d names >>= (λ c
 abbrev pub do_at : ℕ → Names → Spot → Parser (StmtTree Spot)
 do_at d names n = stmt d names >>= (λ s. do_behind d (after_stmt s names) n s)
 
+-- a clause with the sign behind it
+abbrev pub ended_clause : ℕ → Names → Punct → Parser (Option (ExprTree Spot))
+ended_clause d names end = clause_until (stmt d) d names (next_is end) >>= (λ e. take end >> pure e)
+
 abbrev pub for_body : ℕ → Names → Spot → StartTree Spot → Option (ExprTree Spot) → Option (ExprTree Spot) → Parser (StmtTree Spot)
-for_body d names n start test each = take p.RightParen >> (for_loop n start test each <$> stmt d names)
+for_body d names n start test each = for_loop n start test each <$> stmt d names
+
+abbrev pub for_each : ℕ → Names → Spot → StartTree Spot → Option (ExprTree Spot) → Parser (StmtTree Spot)
+for_each d names n start test = ended_clause d names p.RightParen >>= for_body d names n start test
 
 -- `for` behind its first clause, with the names after it
-abbrev pub for_rest : ℕ → Names → Spot → StartTree Spot → Parser (StmtTree Spot)
-for_rest d names n start = clause_until (stmt d) d names (next_is p.Semicolon) >>= (λ test. take p.Semicolon
-    >> clause_until (stmt d) d names (next_is p.RightParen) >>= (λ each. for_body d names n start test each))
+abbrev pub for_test : ℕ → Names → Spot → StartTree Spot → Parser (StmtTree Spot)
+for_test d names n start = ended_clause d names p.Semicolon >>= for_each d names n start
 
 abbrev pub for_at : ℕ → Names → Spot → Parser (StmtTree Spot)
-for_at d names n = take p.LeftParen >> start_clause (stmt d) d names >>= for_behind (stmt d) d names n
+for_at d names n = take p.LeftParen >> start_clause (stmt d) d names >>= (λ start. for_test d (after_start start names) n start)
 
 abbrev pub return_at : ℕ → Names → Spot → Parser (StmtTree Spot)
-return_at d names n = clause_until (stmt d) d names (next_is p.Semicolon) >>= (λ e. take p.Semicolon >> pure (return n e))
+return_at d names n = ended_clause d names p.Semicolon >>= (λ e. pure (return n e))
 
 abbrev pub plain_at : ℕ → Names → Spot → Parser (StmtTree Spot)
 plain_at d names n = (readers names d).expr 1 >>= (λ e. take p.Semicolon >> pure (plain n e))

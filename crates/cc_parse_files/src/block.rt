@@ -19,7 +19,8 @@ use std::alloc::Global;
 
 impl<
     F: Fn(Global, &mut Cursor<'_>, &mut TypedefNames, u32) -> Result<Stmt<Spot>, Fault>,
-> Statements<F> {
+    G: Fn(Global, &mut Cursor<'_>, &mut TypedefNames, u32) -> Result<Block<Spot>, Fault>,
+> Statements<F, G> {
     /// A block behind its brace, as a statement.
     pub fn compound(
         &self,
@@ -48,6 +49,21 @@ impl<
     {
         let items = self.items(tokens, names)?;
         Ok(Block { note: spot, items })
+    }
+
+    /// A block from its brace on.
+    pub fn whole_block(
+        &self,
+        tokens: &mut Cursor<'_>,
+        names: &mut TypedefNames,
+    ) -> Result<Block<Spot>, Fault>
+        requires nests { NestsStmt self.now.depth (F.pre self.now.read) (F.post self.now.read) }
+        ensures gives { Gives view_block (parts.whole_block self.now.depth names.old tokens.old) result tokens.new }
+        ensures after { IfOk result (λ b. names.new ≡ typedefs.after_block (view_block b) names.old) }
+    {
+        let spot = tokens.spot();
+        tokens.skip();
+        self.block(tokens, names, spot)
     }
 
     /// What stands in a block, up to the brace that closes it.

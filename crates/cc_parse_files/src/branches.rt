@@ -1,14 +1,12 @@
 // `if` and `switch` (C17 6.8.4).
-ghost use Rattle.std.specs.Prelude.{◌≡◌, List, IfOk, Err};
+ghost use Rattle.std.specs.Prelude.{◌≡◌, IfOk};
 ghost use Rattle.cc_parse_files.specs.Parts as parts;
 ghost use Rattle.cc_grammar.specs.Names as typedefs;
 ghost use Rattle.cc_grammar.specs.Reading as spec;
 ghost use Rattle.cc_syntax.specs.Views.{view, view_stmt, view_block};
 ghost use Rattle.cc_parse_tokens.specs.Gives.{Gives};
-ghost use Rattle.cc_parse_files.specs.Nests.{NestsStmt};
+ghost use Rattle.cc_parse_files.specs.Nests.{NestsStmt, NestsBlock};
 ghost use Rattle.cc_grammar.specs.Names.{Names};
-ghost use Rattle.cc_lex.specs.declared.token.Token.{Token as TokenValue};
-ghost use Rattle.cc_parse_tokens.specs.declared.fault.Fault.TheVariants.{Refused};
 
 use crate::statement::Statements;
 use cc_lex::{Keyword, Punct};
@@ -20,7 +18,8 @@ use std::alloc::Global;
 
 impl<
     F: Fn(Global, &mut Cursor<'_>, &mut TypedefNames, u32) -> Result<Stmt<Spot>, Fault>,
-> Statements<F> {
+    G: Fn(Global, &mut Cursor<'_>, &mut TypedefNames, u32) -> Result<Block<Spot>, Fault>,
+> Statements<F, G> {
     /// A statement inside, in a box.
     pub fn boxed(
         &self,
@@ -95,7 +94,7 @@ impl<
         names: &mut TypedefNames,
         spot: Spot,
     ) -> Result<Stmt<Spot>, Fault>
-        requires nests { NestsStmt self.now.depth (F.pre self.now.read) (F.post self.now.read) }
+        requires nests_block { NestsBlock self.now.depth (G.pre self.now.read_block) (G.post self.now.read_block) }
         ensures gives { Gives view_stmt (parts.switch_at self.now.depth names.old spot tokens.old) result tokens.new }
         ensures after { IfOk result (λ s. names.new ≡ typedefs.after_stmt (view_stmt s) names.old) }
     {
@@ -104,37 +103,16 @@ impl<
         Ok(Stmt::Switch(spot, test, body))
     }
 
-    /// A statement inside that is a block.
+    /// A block inside.
     pub fn body(
         &self,
         tokens: &mut Cursor<'_>,
         names: &mut TypedefNames,
     ) -> Result<Block<Spot>, Fault>
-        requires nests { NestsStmt self.now.depth (F.pre self.now.read) (F.post self.now.read) }
+        requires nests_block { NestsBlock self.now.depth (G.pre self.now.read_block) (G.post self.now.read_block) }
         ensures gives { Gives view_block (spec.body (spec.stmt self.now.depth) self.now.depth names.old tokens.old) result tokens.new }
         ensures after { IfOk result (λ b. names.new ≡ typedefs.after_block (view_block b) names.old) }
     {
-        if !tokens.next_is(Punct::LeftBrace) {
-            return Err(Fault::Refused);
-        }
-        let found = self.inside(tokens, names)?;
-        only_block(found)
+        (self.read_block)(self.alloc, tokens, names, self.depth)
     }
-}
-
-/// The block that a statement is.
-fn only_block(found: Stmt<Spot>) -> Result<Block<Spot>, Fault>
-    ensures { (ts : List TokenValue) → Gives view_block (spec.only_block (view_stmt found) ts) result ts }
-{
-    match found {
-        Stmt::Block(block) => Ok(block),
-        other => refuse(other),
-    }
-}
-
-/// A statement where a block must stand.
-fn refuse(_: Stmt<Spot>) -> Result<Block<Spot>, Fault>
-    ensures { result ≡ Err Refused }
-{
-    Err(Fault::Refused)
 }

@@ -13,14 +13,15 @@ use crate::statement::Statements;
 use cc_lex::{Keyword, Punct};
 use cc_parse_expr::expr;
 use cc_parse_tokens::{Cursor, Fault, TypedefNames};
-use cc_syntax::{Expr, ForStart, Stmt};
-use cc_syntax_make::{do_loop, for_loop, while_loop};
+use cc_syntax::{Block, Expr, ForStart, Stmt};
 use cc_tree::Spot;
+use sqlite_items::Boxed;
 use std::alloc::Global;
 
 impl<
     F: Fn(Global, &mut Cursor<'_>, &mut TypedefNames, u32) -> Result<Stmt<Spot>, Fault>,
-> Statements<F> {
+    G: Fn(Global, &mut Cursor<'_>, &mut TypedefNames, u32) -> Result<Block<Spot>, Fault>,
+> Statements<F, G> {
     /// `while` behind the word.
     pub fn while_statement(
         &self,
@@ -33,8 +34,8 @@ impl<
         ensures after { IfOk result (λ s. names.new ≡ typedefs.after_stmt (view_stmt s) names.old) }
     {
         let test = self.condition(tokens, names)?;
-        let body = self.inside(tokens, names)?;
-        Ok(while_loop(self.alloc, spot, test, body)?)
+        let body = self.boxed(tokens, names)?;
+        Ok(Stmt::While(spot, test, body))
     }
 
     /// `do` behind the word.
@@ -48,7 +49,7 @@ impl<
         ensures gives { Gives view_stmt (parts.do_at self.now.depth names.old spot tokens.old) result tokens.new }
         ensures after { IfOk result (λ s. names.new ≡ typedefs.after_stmt (view_stmt s) names.old) }
     {
-        let body = self.inside(tokens, names)?;
+        let body = self.boxed(tokens, names)?;
         self.do_behind(tokens, names, spot, body)
     }
 
@@ -58,7 +59,7 @@ impl<
         tokens: &mut Cursor<'_>,
         names: &TypedefNames,
         spot: Spot,
-        body: Stmt<Spot>,
+        body: Boxed<Stmt<Spot>>,
     ) -> Result<Stmt<Spot>, Fault>
         ensures gives { Gives view_stmt (parts.do_behind self.now.depth names.now spot (view_stmt body) tokens.old) result tokens.new }
         ensures same { IfOk result (λ s. (before : Names) → typedefs.after_stmt (view_stmt s) before ≡ typedefs.after_stmt (view_stmt body) before) }
@@ -66,7 +67,7 @@ impl<
         tokens.take_key(Keyword::While)?;
         let test = self.condition(tokens, names)?;
         tokens.take(Punct::Semicolon)?;
-        Ok(do_loop(self.alloc, spot, body, test)?)
+        Ok(Stmt::Do(spot, body, test))
     }
 
     /// `for` behind the word.
@@ -132,16 +133,31 @@ impl<
         start: ForStart<Spot>,
     ) -> Result<Stmt<Spot>, Fault>
         requires nests { NestsStmt self.now.depth (F.pre self.now.read) (F.post self.now.read) }
-        ensures gives { Gives view_stmt (parts.for_rest self.now.depth names.old spot (view_start start) tokens.old) result tokens.new }
+        ensures gives { Gives view_stmt (parts.for_test self.now.depth names.old spot (view_start start) tokens.old) result tokens.new }
         ensures after { IfOk result (λ s. (before : Names) → names.old ≡ typedefs.after_start (view_start start) before → names.new ≡ typedefs.after_stmt (view_stmt s) before) }
     {
-        let test = self.clause(tokens, names, Punct::Semicolon)?;
-        tokens.take(Punct::Semicolon)?;
-        let each = self.clause(tokens, names, Punct::RightParen)?;
+        let test = self.ended_clause(tokens, names, Punct::Semicolon)?;
+        self.for_each(tokens, names, spot, start, test)
+    }
+
+    /// `for` behind its second clause.
+    pub fn for_each(
+        &self,
+        tokens: &mut Cursor<'_>,
+        names: &mut TypedefNames,
+        spot: Spot,
+        start: ForStart<Spot>,
+        test: Option<Expr<Spot>>,
+    ) -> Result<Stmt<Spot>, Fault>
+        requires nests { NestsStmt self.now.depth (F.pre self.now.read) (F.post self.now.read) }
+        ensures gives { Gives view_stmt (parts.for_each self.now.depth names.old spot (view_start start) (option_map view test) tokens.old) result tokens.new }
+        ensures after { IfOk result (λ s. (before : Names) → names.old ≡ typedefs.after_start (view_start start) before → names.new ≡ typedefs.after_stmt (view_stmt s) before) }
+    {
+        let each = self.ended_clause(tokens, names, Punct::RightParen)?;
         self.for_body(tokens, names, spot, start, test, each)
     }
 
-    /// The closing parenthesis of a `for`, and its statement.
+    /// The statement of a `for`.
     pub fn for_body(
         &self,
         tokens: &mut Cursor<'_>,
@@ -155,8 +171,7 @@ impl<
         ensures gives { Gives view_stmt (parts.for_body self.now.depth names.old spot (view_start start) (option_map view test) (option_map view each) tokens.old) result tokens.new }
         ensures after { IfOk result (λ s. (before : Names) → names.old ≡ typedefs.after_start (view_start start) before → names.new ≡ typedefs.after_stmt (view_stmt s) before) }
     {
-        tokens.take(Punct::RightParen)?;
-        let body = self.inside(tokens, names)?;
-        Ok(for_loop(self.alloc, spot, start, test, each, body)?)
+        let body = self.boxed(tokens, names)?;
+        Ok(Stmt::For(spot, start, test, each, body))
     }
 }

@@ -5,7 +5,7 @@ ghost use Rattle.cc_grammar.specs.Names as typedefs;
 ghost use Rattle.cc_grammar.specs.Reading as spec;
 ghost use Rattle.cc_syntax.specs.Views.{view, view_stmt, view_block};
 ghost use Rattle.cc_parse_tokens.specs.Gives.{Gives};
-ghost use Rattle.cc_parse_files.specs.Nests.{NestsStmt};
+ghost use Rattle.cc_parse_files.specs.Nests.{NestsStmt, NestsBlock};
 ghost use Rattle.cc_grammar.specs.Classes as grammar;
 
 use cc_lex::Punct;
@@ -15,17 +15,19 @@ use cc_syntax::{Block, Expr, Stmt};
 use cc_tree::Spot;
 use std::alloc::Global;
 
-/// The rules of statements, where statements inside are no deeper than `depth`.
+/// The rules of statements, where statements and blocks inside are no deeper than `depth`, over their readers.
 #[derive(Clone, Copy)]
-pub struct Statements<F> {
+pub struct Statements<F, G> {
     pub alloc: Global,
     pub depth: u32,
     pub read: F,
+    pub read_block: G,
 }
 
 impl<
     F: Fn(Global, &mut Cursor<'_>, &mut TypedefNames, u32) -> Result<Stmt<Spot>, Fault>,
-> Statements<F> {
+    G: Fn(Global, &mut Cursor<'_>, &mut TypedefNames, u32) -> Result<Block<Spot>, Fault>,
+> Statements<F, G> {
     /// A statement inside.
     pub fn inside(
         &self,
@@ -69,6 +71,20 @@ impl<
         Ok(Some(found))
     }
 
+    /// The same with the sign, which is taken.
+    pub fn ended_clause(
+        &self,
+        tokens: &mut Cursor<'_>,
+        names: &TypedefNames,
+        end: Punct,
+    ) -> Result<Option<Expr<Spot>>, Fault>
+        ensures { Gives (option_map view) (parts.ended_clause self.now.depth names.now end tokens.old) result tokens.new }
+    {
+        let found = self.clause(tokens, names, end)?;
+        tokens.take(end)?;
+        Ok(found)
+    }
+
     /// A statement whose statements inside are no deeper than `depth` (C17 6.8).
     #[tactic(auto, using(crate::proofs::FirstTokens::first_is))]
     pub fn statement(
@@ -77,6 +93,7 @@ impl<
         names: &mut TypedefNames,
     ) -> Result<Stmt<Spot>, Fault>
         requires nests { NestsStmt self.now.depth (F.pre self.now.read) (F.post self.now.read) }
+        requires nests_block { NestsBlock self.now.depth (G.pre self.now.read_block) (G.post self.now.read_block) }
         ensures gives { Gives view_stmt (parts.stmt_at self.now.depth names.old tokens.old) result tokens.new }
         ensures after { IfOk result (λ s. names.new ≡ typedefs.after_stmt (view_stmt s) names.old) }
     {
@@ -94,6 +111,7 @@ impl<
         start: StmtStart,
     ) -> Result<Stmt<Spot>, Fault>
         requires nests { NestsStmt self.now.depth (F.pre self.now.read) (F.post self.now.read) }
+        requires nests_block { NestsBlock self.now.depth (G.pre self.now.read_block) (G.post self.now.read_block) }
         ensures gives { Gives view_stmt (parts.first_at self.now.depth start names.old spot tokens.old) result tokens.new }
         ensures after { IfOk result (λ s. names.new ≡ typedefs.after_stmt (view_stmt s) names.old) }
     {
@@ -154,8 +172,7 @@ impl<
         ensures gives { Gives view_stmt (parts.return_at self.now.depth names.old spot tokens.old) result tokens.new }
         ensures after { IfOk result (λ s. names.new ≡ typedefs.after_stmt (view_stmt s) names.old) }
     {
-        let value = self.clause(tokens, names, Punct::Semicolon)?;
-        tokens.take(Punct::Semicolon)?;
+        let value = self.ended_clause(tokens, names, Punct::Semicolon)?;
         Ok(Stmt::Return(spot, value))
     }
 
@@ -211,6 +228,8 @@ fn begins_statement(tokens: &Cursor<'_>, names: &TypedefNames) -> bool {
 }
 
 /// A statement no deeper than `depth` (C17 6.8). The typedef names that stand behind it are taken down.
+#[cycle(statements)]
+#[tactic(auto, using(crate::proofs::Opened::stmt_is, crate::proofs::Opened::no_stmt))]
 pub fn stmt(
     alloc: Global,
     tokens: &mut Cursor<'_>,
@@ -230,11 +249,14 @@ pub fn stmt(
         alloc,
         depth: inside,
         read: stmt,
+        read_block: body,
     }
     .statement(tokens, names)
 }
 
-/// The body of a function: a block no deeper than `depth` (C17 6.9.1).
+/// A block no deeper than `depth`: the body of a function or of a `switch` (C17 6.8.4, 6.9.1).
+#[cycle(statements)]
+#[tactic(auto, using(crate::proofs::Opened::body_is, crate::proofs::Opened::no_body, crate::proofs::Opened::no_brace))]
 pub fn body(
     alloc: Global,
     tokens: &mut Cursor<'_>,
@@ -244,10 +266,18 @@ pub fn body(
     ensures gives { Gives view_block (spec.body (spec.stmt depth) depth names.old tokens.old) result tokens.new }
     ensures after { IfOk result (λ b. names.new ≡ typedefs.after_block (view_block b) names.old) }
 {
+    if !tokens.next_is(Punct::LeftBrace) {
+        return Err(Fault::Refused);
+    }
+    let Some(inside) = depth.checked_sub(1) else {
+        tokens.mark();
+        return Err(Fault::Refused);
+    };
     Statements {
         alloc,
-        depth,
+        depth: inside,
         read: stmt,
+        read_block: body,
     }
-    .body(tokens, names)
+    .whole_block(tokens, names)
 }

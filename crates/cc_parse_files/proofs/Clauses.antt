@@ -1,0 +1,51 @@
+-- A clause with the sign behind it is read in one, and so `for` and `return` are those of the grammar.
+use Rattle.std.proofs.Common.{◌≡◌, refl, ℕ, List, Unit, Option, Ok, Err, sym, ◌∙◌}
+use Rattle.cc_tree.specs.declared.place.Spot.{Spot}
+use Rattle.cc_lex.specs.declared.token.Token.{Token}
+use Rattle.cc_lex.specs.declared.punct.Punct.{Punct}
+use Rattle.cc_lex.specs.declared.punct.Punct.TheVariants as p
+use Rattle.cc_syntax.specs.Trees.{ExprTree, StartTree, StmtTree, return}
+use Rattle.cc_grammar.specs.Classes.{next_is}
+use Rattle.cc_grammar.specs.Names.{Names, after_start}
+use Rattle.cc_grammar.specs.Outcomes.{Outcome, Parser, and_then, ◌>>=◌, ◌>>◌, pure, take}
+use Rattle.cc_grammar.specs.Reading.{stmt, clause_until, start_clause, for_behind}
+use Rattle.cc_parse_files.specs.Parts.{ended_clause, for_body, for_each, for_test, for_at, return_at}
+
+bind_same : {A B : Type 0} (o : Outcome A) (f g : A → Parser B) → ((x : A) (us : List Token) → f x us ≡ g x us) → and_then o f ≡ and_then o g
+bind_same (Ok y) f g e = e y.0 y.1
+bind_same (Err r) f g e = refl
+
+behind : {A B : Type 0} (o : Outcome (Unit {0})) (x : A) (k : A → Parser B) → and_then (and_then o (λ _. pure x)) k ≡ and_then o (λ _. k x)
+behind (Ok y) x k = refl
+behind (Err r) x k = refl
+
+sign_behind : {A B : Type 0} (s : Punct) (o : Outcome A) (k : A → Parser B) → and_then (and_then o (λ x. take s >> pure x)) k ≡ and_then o (λ x. take s >> k x)
+sign_behind s (Ok y) k = behind (take s y.1) y.0 k
+sign_behind s (Err r) k = refl
+
+module _ (d : ℕ) (names : Names) (n : Spot) where
+  clause : Punct → Parser (Option (ExprTree Spot))
+  clause end = clause_until (stmt d) d names (next_is end)
+
+  second : (start : StartTree Spot) (test : Option (ExprTree Spot)) (o : Outcome (Unit {0}))
+      → and_then (and_then o (λ _. clause_until (stmt d) d names (next_is p.RightParen))) (λ each. take p.RightParen >> for_body d names n start test each) ≡ and_then o (λ _. for_each d names n start test)
+  second start test (Ok y) = sym (sign_behind p.RightParen (clause_until (stmt d) d names (next_is p.RightParen) y.1) (for_body d names n start test))
+  second start test (Err r) = refl
+
+-- `for` behind its first clause
+behind_is : (d : ℕ) (names : Names) (n : Spot) (start : StartTree Spot) (ts : List Token) → for_behind (stmt d) d names n start ts ≡ for_test d (after_start start names) n start ts
+behind_is d names n start ts =
+    let after = after_start start names in
+    bind_same (clause_until (stmt d) d after (next_is p.Semicolon) ts)
+    (λ test. take p.Semicolon >> clause_until (stmt d) d after (next_is p.RightParen) >>= (λ each. take p.RightParen >> for_body d after n start test each))
+    (λ test. take p.Semicolon >> for_each d after n start test)
+    (λ test us. second d after n start test (take p.Semicolon us))
+    ∙ sym (sign_behind p.Semicolon (clause_until (stmt d) d after (next_is p.Semicolon) ts) (for_each d after n start))
+
+pub for_is : (d : ℕ) (names : Names) (n : Spot) (ts : List Token) → (take p.LeftParen >> start_clause (stmt d) d names >>= for_behind (stmt d) d names n) ts ≡ for_at d names n ts
+for_is d names n ts =
+    bind_same ((take p.LeftParen >> start_clause (stmt d) d names) ts) (for_behind (stmt d) d names n) (λ start. for_test d (after_start start names) n start) (λ start us. behind_is d names n start us)
+
+pub return_is : (d : ℕ) (names : Names) (n : Spot) (ts : List Token)
+    → (clause_until (stmt d) d names (next_is p.Semicolon) >>= (λ e. take p.Semicolon >> pure (return n e))) ts ≡ return_at d names n ts
+return_is d names n ts = sym (sign_behind p.Semicolon (clause_until (stmt d) d names (next_is p.Semicolon) ts) (λ e. pure (return n e)))
