@@ -3,3 +3,4 @@ pub mod Views
 pub mod Depth
 pub mod Nodes
 pub mod Renoted
+pub mod Types
