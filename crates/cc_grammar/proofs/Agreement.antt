@@ -91,3 +91,39 @@ placed_4 = refl
 deep_4 : map (λ t. depth (file (read t))) example.files_4_texts ≡ map (λ t. file_depth (read t)) example.files_4_texts
 unfolding reading meaning word keywords puncts
 deep_4 = refl
+
+spelled_5 : map kinds_written example.files_5_texts ≡ map kinds example.files_5_texts
+unfolding reading meaning word keywords puncts
+spelled_5 = refl
+
+placed_5 : map (λ t. all_stand (written t) (tokens t)) example.files_5_texts ≡ yes example.files_5_texts
+unfolding reading meaning word keywords puncts
+placed_5 = refl
+
+deep_5 : map (λ t. depth (file (read t))) example.files_5_texts ≡ map (λ t. file_depth (read t)) example.files_5_texts
+unfolding reading meaning word keywords puncts
+deep_5 = refl
+
+spelled_6 : map kinds_written example.files_6_texts ≡ map kinds example.files_6_texts
+unfolding reading meaning word keywords puncts
+spelled_6 = refl
+
+placed_6 : map (λ t. all_stand (written t) (tokens t)) example.files_6_texts ≡ yes example.files_6_texts
+unfolding reading meaning word keywords puncts
+placed_6 = refl
+
+deep_6 : map (λ t. depth (file (read t))) example.files_6_texts ≡ map (λ t. file_depth (read t)) example.files_6_texts
+unfolding reading meaning word keywords puncts
+deep_6 = refl
+
+spelled_7 : map kinds_written example.files_7_texts ≡ map kinds example.files_7_texts
+unfolding reading meaning word keywords puncts
+spelled_7 = refl
+
+placed_7 : map (λ t. all_stand (written t) (tokens t)) example.files_7_texts ≡ yes example.files_7_texts
+unfolding reading meaning word keywords puncts
+placed_7 = refl
+
+deep_7 : map (λ t. depth (file (read t))) example.files_7_texts ≡ map (λ t. file_depth (read t)) example.files_7_texts
+unfolding reading meaning word keywords puncts
+deep_7 = refl
