@@ -8,10 +8,15 @@ use Rattle.cc_syntax.specs.declared.operator.SpecWord.TheVariants as w
 use Rattle.cc_grammar.proofs.Texts.{at}
 use Rattle.cc_grammar.proofs.Disorders.{Disordered, n}
 
--- a typedef name is declared by no declarator
+-- a typedef name is declared by no declarator,
 a_type_declared : Disordered (codes "typedef int T ; int T ;") (t.outer_declaration (t.declaration (at 1) (t.more_specs (t.word (at 1) w.Typedef) (t.more_specs (t.word (at 2) w.Int) t.no_specs)) (t.init (t.declared (at 3) (codes "T")) None ∷ [])) ∷ t.outer_declaration (t.declaration (at 5) (t.more_specs (t.word (at 5) w.Int) t.no_specs) (t.init (t.declared (at 6) (codes "T")) None ∷ [])) ∷ [])
 unfolding meaning word keywords puncts
 a_type_declared = (search rules, λ h. grind (arith, h))
+
+-- and is no constant
+a_type_as_a_constant : Disordered (codes "typedef int T ; enum { T } ;") (t.outer_declaration (t.declaration (at 1) (t.more_specs (t.word (at 1) w.Typedef) (t.more_specs (t.word (at 2) w.Int) t.no_specs)) (t.init (t.declared (at 3) (codes "T")) None ∷ [])) ∷ t.outer_declaration (t.declaration (at 5) (t.more_specs (t.enum (at 5) None (t.more_constants (t.constant (at 7) (codes "T") t.no_expr) t.no_constants) false) t.no_specs) ([])) ∷ [])
+unfolding meaning word keywords puncts
+a_type_as_a_constant = (search rules, λ h. grind (arith, h))
 
 -- a name that is no typedef name is no type
 a_name_as_a_type : Disordered (codes "a b ;") (t.outer_declaration (t.declaration (at 1) (t.more_specs (t.named (at 1) (codes "a")) t.no_specs) (t.init (t.declared (at 2) (codes "b")) None ∷ [])) ∷ [])
@@ -73,15 +78,35 @@ a_group_at_its_parenthesis : Disordered (codes "int ( a ) ;") (t.outer_declarati
 unfolding meaning word keywords puncts
 a_group_at_its_parenthesis = (search rules, λ h. grind (arith, h))
 
+-- and a pointer around another,
+a_pointer_of_a_pointer_at_its_star : Disordered (codes "int * * a ;") (t.outer_declaration (t.declaration (at 1) (t.more_specs (t.word (at 1) w.Int) t.no_specs) (t.init (t.pointer (at 2) 0 (t.pointer (at 4) 0 (t.declared (at 4) (codes "a")))) None ∷ [])) ∷ [])
+unfolding meaning word keywords puncts
+a_pointer_of_a_pointer_at_its_star = (search rules, λ h. grind (arith, h))
+
 -- an array,
 an_array_at_its_bracket : Disordered (codes "int a [ ] ;") (t.outer_declaration (t.declaration (at 1) (t.more_specs (t.word (at 1) w.Int) t.no_specs) (t.init (t.array (at 3) (t.declared (at 2) (codes "a")) t.no_expr) None ∷ [])) ∷ [])
 unfolding meaning word keywords puncts
 an_array_at_its_bracket = (search rules, λ h. grind (arith, h))
 
--- a function
+-- one of arrays,
+an_array_of_arrays_at_its_bracket : Disordered (codes "int a [ ] [ ] ;") (t.outer_declaration (t.declaration (at 1) (t.more_specs (t.word (at 1) w.Int) t.no_specs) (t.init (t.array (at 5) (t.array (at 2) (t.declared (at 2) (codes "a")) t.no_expr) t.no_expr) None ∷ [])) ∷ [])
+unfolding meaning word keywords puncts
+an_array_of_arrays_at_its_bracket = (search rules, λ h. grind (arith, h))
+
+-- a function,
 a_function_at_its_parenthesis : Disordered (codes "int f ( ) ;") (t.outer_declaration (t.declaration (at 1) (t.more_specs (t.word (at 1) w.Int) t.no_specs) (t.init (t.function (at 3) (t.declared (at 2) (codes "f")) t.no_types) None ∷ [])) ∷ [])
 unfolding meaning word keywords puncts
 a_function_at_its_parenthesis = (search rules, λ h. grind (arith, h))
+
+-- one that returns one,
+a_function_of_a_function_at_its_parenthesis : Disordered (codes "int f ( ) ( ) ;") (t.outer_declaration (t.declaration (at 1) (t.more_specs (t.word (at 1) w.Int) t.no_specs) (t.init (t.function (at 5) (t.function (at 2) (t.declared (at 2) (codes "f")) t.no_types) t.no_types) None ∷ [])) ∷ [])
+unfolding meaning word keywords puncts
+a_function_of_a_function_at_its_parenthesis = (search rules, λ h. grind (arith, h))
+
+-- one whose name stands in parentheses,
+a_function_of_a_group_at_its_parenthesis : Disordered (codes "int ( f ) ( ) ;") (t.outer_declaration (t.declaration (at 1) (t.more_specs (t.word (at 1) w.Int) t.no_specs) (t.init (t.function (at 2) (t.grouped (at 3) (t.declared (at 3) (codes "f"))) t.no_types) None ∷ [])) ∷ [])
+unfolding meaning word keywords puncts
+a_function_of_a_group_at_its_parenthesis = (search rules, λ h. grind (arith, h))
 
 -- and one with a body
 a_definition_at_its_type : Disordered (codes "int f ( ) { }") (t.definition (at 1) (t.more_specs (t.word (at 1) w.Int) t.no_specs) (t.function (at 2) (t.declared (at 2) (codes "f")) t.no_types) (t.block (at 5) t.no_items) ∷ [])

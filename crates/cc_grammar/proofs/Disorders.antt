@@ -118,7 +118,7 @@ unfolding meaning word keywords puncts
 a_call_with_a_late_comma = (search rules, λ h. omega (arith, h))
 
 -- a call stands where its designator begins
-a_call_at_its_parenthesis : Disordered (codes "void f ( ) { a ( ) ; }") (body (t.plain (at 6) (t.call (at 7) (n 6 (codes "a")) t.no_exprs)))
+a_call_at_its_parenthesis : Disordered (codes "void f ( ) { a + b ( ) ; }") (body (t.plain (at 6) (t.binary (at 7) (b.Int int.Add) (n 6 (codes "a")) (t.call (at 9) (n 8 (codes "b")) t.no_exprs))))
 unfolding meaning word keywords puncts
 a_call_at_its_parenthesis = (search rules, λ h. grind (arith, h))
 
