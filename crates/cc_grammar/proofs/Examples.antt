@@ -122,6 +122,10 @@ files_6_texts =
     codes "void f ( ) { for ( - a ; b ; c ) ; }" ∷
     codes "void f ( ) { for ( a ; - b ; c ) ; }" ∷
     codes "void f ( ) { for ( a ; b ; - c ) ; }" ∷
+    codes "void f ( ) { switch ( - a ) { } }" ∷
+    codes "void f ( ) { while ( 1 ) { break ; } }" ∷
+    codes "void f ( ) { do { continue ; } while ( 1 ) ; }" ∷
+    codes "void f ( ) { { default : } }" ∷
     []
 
 pub files_6 : map stop files_6_texts ≡ none files_6_texts

@@ -285,3 +285,19 @@ orderly_69 = search rules
 orderly_70 : Orderly (read (codes "int * f ( int ( a ) ) { }"))
 unfolding reading meaning word keywords puncts
 orderly_70 = search rules
+
+orderly_71 : Orderly (read (codes "void f ( ) { switch ( - a ) { } }"))
+unfolding reading meaning word keywords puncts
+orderly_71 = search rules
+
+orderly_72 : Orderly (read (codes "void f ( ) { while ( 1 ) { break ; } }"))
+unfolding reading meaning word keywords puncts
+orderly_72 = search rules
+
+orderly_73 : Orderly (read (codes "void f ( ) { do { continue ; } while ( 1 ) ; }"))
+unfolding reading meaning word keywords puncts
+orderly_73 = search rules
+
+orderly_74 : Orderly (read (codes "void f ( ) { { default : } }"))
+unfolding reading meaning word keywords puncts
+orderly_74 = search rules
