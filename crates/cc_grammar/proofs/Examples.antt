@@ -86,6 +86,72 @@ pub files_4 : map stop files_4_texts ≡ none files_4_texts
 unfolding reading meaning word keywords puncts
 files_4 = refl
 
+-- each form of an expression, with each operator
+abbrev pub files_5_texts : List (List ℕ)
+files_5_texts =
+    codes "void f ( ) { a || b && c | d ^ e & g == h < i << j + k * l ; }" ∷
+    codes "void f ( ) { a % b - c >> d >= e != g & h ^ i | j && k || l ; a / b <= c > d ; }" ∷
+    codes "void f ( ) { a = b *= c /= d %= e += g -= h <<= i >>= j &= k ^= l |= 1 ; }" ∷
+    codes "void f ( ) { & a ; * a ; + a ; - a ; ~ a ; ! a ; ++ a ; -- a ; a ++ ; a -- ; }" ∷
+    codes "void f ( ) { a . b ; a -> b ; a [ b ] ; a ( ) ; 1 ; 'a' ; \"a\" \"b\" ; ( a ) ; a , b ; a ? b : c ; }" ∷
+    codes "typedef int T ; void f ( ) { ( T ) a ; ( int * ) - b ; sizeof ( T ) ; sizeof a ; sizeof ( a ) ; }" ∷
+    codes "int a = - ( ++ b [ c ( d , ( int ) e -> g . h ++ ) ] ) ;" ∷
+    codes "void f ( ) { a ( ) [ 1 ] * b + c ? d : e , g ; }" ∷
+    codes "void f ( ) { a , b = c ? d : e + g * sizeof h ( - i ) ; }" ∷
+    codes "void f ( ) { a ( ) = b ? c ( ) ( ) : d ; }" ∷
+    []
+
+pub files_5 : map stop files_5_texts ≡ none files_5_texts
+unfolding reading meaning word keywords puncts
+files_5 = refl
+
+-- each form of a statement
+abbrev pub files_6_texts : List (List ℕ)
+files_6_texts =
+    codes "void f ( ) { ; a ; break ; continue ; return ; return a ; { } { int b ; ; } }" ∷
+    codes "void f ( ) { for ( ; ; ) while ( a ) do if ( b ) switch ( c ) { default : { return - 2 ; } } else ; while ( d ) ; }" ∷
+    codes "void f ( ) { if ( - a ) ; else ; }" ∷
+    codes "void f ( ) { if ( a ) ; else { ; } }" ∷
+    codes "void f ( ) { if ( a ) { ; } }" ∷
+    codes "void f ( ) { if ( - a ) ; while ( b ) ; do ; while ( c ) ; switch ( d ) { } }" ∷
+    codes "void f ( ) { while ( - a ) ; for ( b ; c ; d ) ; }" ∷
+    codes "void f ( ) { do ; while ( - a ) ; }" ∷
+    codes "void f ( ) { switch ( - a ) { case 1 : case 2 + 3 : default : ; } }" ∷
+    codes "void f ( ) { switch ( a ) { case - 1 : ; } }" ∷
+    codes "void f ( ) { for ( int i = 0 , * j ; ; ) ; }" ∷
+    codes "void f ( ) { for ( - a ; b ; c ) ; }" ∷
+    codes "void f ( ) { for ( a ; - b ; c ) ; }" ∷
+    codes "void f ( ) { for ( a ; b ; - c ) ; }" ∷
+    codes "void f ( ) { switch ( - a ) { } }" ∷
+    codes "void f ( ) { while ( 1 ) { break ; } }" ∷
+    codes "void f ( ) { do { continue ; } while ( 1 ) ; }" ∷
+    codes "void f ( ) { { default : } }" ∷
+    []
+
+pub files_6 : map stop files_6_texts ≡ none files_6_texts
+unfolding reading meaning word keywords puncts
+files_6 = refl
+
+-- specifiers, declarators and initialisers
+abbrev pub files_7_texts : List (List ℕ)
+files_7_texts =
+    codes "struct { struct { int a ; } b ; } c ;" ∷
+    codes "struct { int a ; char b , * * c [ 2 ] ; } d ;" ∷
+    codes "enum { A , B = - 1 , C } a ;" ∷
+    codes "enum { A = - 1 , B } a ;" ∷
+    codes "enum { A } a ;" ∷
+    codes "int a , * * b ( int c , int ( * d ) ( int * [ - 1 ] ) ) ;" ∷
+    codes "int a = 1 , b [ ] = { 2 , { { - 3 } , 4 } , 5 } ;" ∷
+    codes "int a = sizeof ( int ( * ) [ 3 ] ) ;" ∷
+    codes "int a = ( int * const * ) b ;" ∷
+    codes "static inline const unsigned long f ( signed short a ) { extern _Bool b ; }" ∷
+    codes "int * f ( int ( a ) ) { }" ∷
+    []
+
+pub files_7 : map stop files_7_texts ≡ none files_7_texts
+unfolding reading meaning word keywords puncts
+files_7 = refl
+
 -- no files, and where they stop being one
 abbrev refused_1_texts : List (List ℕ × Option ℕ)
 refused_1_texts =
