@@ -1,5 +1,5 @@
 -- A clause with the sign behind it is read in one, and so `for` and `return` are those of the grammar.
-use Rattle.std.proofs.Common.{◌≡◌, refl, ℕ, List, Unit, Option, Ok, Err, sym, ◌∙◌}
+use Rattle.std.proofs.Common.{◌≡◌, refl, ℕ, List, Option, Ok, Err, sym, ◌∙◌}
 use Rattle.cc_tree.specs.declared.place.Spot.{Spot}
 use Rattle.cc_lex.specs.declared.token.Token.{Token}
 use Rattle.cc_lex.specs.declared.punct.Punct.{Punct}

@@ -1,18 +1,26 @@
 -- A statement by the class of its first token.
-use Rattle.std.proofs.Common.{◌≡◌, ℕ, List, refl, sym, ap, ◌∙◌}
+use Rattle.std.proofs.Common.{◌≡◌, ℕ, List, Ok, Err, refl, sym, ap, ◌∙◌}
 use Rattle.cc_tree.specs.declared.place.Spot.{Spot}
 use Rattle.cc_lex.specs.declared.token.Token.{Token}
+use Rattle.cc_syntax.specs.Trees.{ItemTree, compound, block}
+use Rattle.cc_syntax.specs.Views.{gathered_items}
 use Rattle.cc_grammar.specs.Classes.{skip, spot, stmt_start}
 use Rattle.cc_grammar.specs.Names.{Names}
-use Rattle.cc_grammar.specs.Reading.{stmt, stmt_by}
+use Rattle.cc_grammar.specs.Outcomes.{Outcome, and_then, pure}
+use Rattle.cc_grammar.specs.Reading.{stmt, stmt_by, items}
 use Rattle.cc_parse_tokens.specs.Classes.{stmt_of}
 use Rattle.cc_parse_tokens.specs.declared.class.StmtStart.{StmtStart}
 use Rattle.cc_parse_tokens.specs.declared.class.StmtStart.TheVariants as s
 use Rattle.cc_parse_files.proofs.Clauses.{for_is, return_is}
-use Rattle.cc_parse_files.specs.Parts.{first_at, stmt_at}
+use Rattle.cc_parse_files.specs.Parts.{items_in, first_at, stmt_at}
+
+both : (n : Spot) (o : Outcome (List (ItemTree Spot))) → and_then o (λ is. pure (compound (block n (gathered_items is)))) ≡ and_then (and_then o (λ is. pure (block n (gathered_items is)))) (λ b. pure (compound b))
+both n (Ok y) = refl
+both n (Err r) = refl
 
 by_class : (d : ℕ) (start : StmtStart) (names : Names) (n : Spot) (ts : List Token) → stmt_by (stmt d) d (stmt_of start) names n ts ≡ first_at d start names n ts
-by_class d s.Block names n ts = refl
+unfolding items_in
+by_class d s.Block names n ts = both n (items (stmt d) d names (skip ts))
 by_class d s.Empty names n ts = refl
 by_class d s.If names n ts = refl
 by_class d s.Switch names n ts = refl

@@ -1,5 +1,5 @@
 -- A statement and a block, opened by one level.
-use Rattle.std.proofs.Common.{◌≡◌, ◌<◌, ◌-◌, refl, ℕ, zero, suc, Bool, true, false, List, [], ◌∷◌, Ok, Err, sym, ap, ◌∙◌, arith, absurd}
+use Rattle.std.proofs.Common.{◌≡◌, ◌<◌, ◌-◌, refl, ℕ, zero, suc, Bool, true, false, List, [], ◌∷◌, Ok, Err, sym, ap, ◌∙◌, arith}
 use Rattle.cc_tree.specs.declared.place.Spot.{Spot}
 use Rattle.cc_lex.specs.declared.token.Token.{Token}
 use Rattle.cc_lex.specs.declared.punct.Punct.TheVariants as p
@@ -9,8 +9,8 @@ use Rattle.cc_grammar.specs.Classes.{next_is, skip, spot, stmt_start, stmt_kind,
 use Rattle.cc_grammar.specs.Names.{Names}
 use Rattle.cc_grammar.specs.Outcomes.{Outcome, and_then, ◌>>=◌, pure, refuse}
 use Rattle.cc_grammar.specs.Reading.{branch, stmt, stmt_by, items, only_block, body}
-use Rattle.cc_parse_laws.proofs.Steps.{punct_kind}
-use Rattle.cc_parse_files.specs.Parts.{whole_block, stmt_at}
+use Rattle.cc_parse_laws.proofs.Steps.{punct_kind, branch_true}
+use Rattle.cc_parse_files.specs.Parts.{items_in, block_behind, stmt_at}
 
 pub stmt_is : (d : ℕ) (names : Names) (ts : List Token) → 0 < d → stmt d names ts ≡ stmt_at (d - 1) names ts
 stmt_is zero names ts h = absurd (omega (arith, h))
@@ -28,19 +28,22 @@ only : (n : Spot) (o : Outcome (List (ItemTree Spot))) → and_then (and_then o 
 only n (Ok y) = refl
 only n (Err r) = refl
 
-block_by : (d : ℕ) (names : Names) (ts : List Token) (b : StmtStart) → b ≡ begins_block → and_then (stmt_by (stmt d) d b names (spot ts) ts) only_block ≡ whole_block d names ts
+block_by : (d : ℕ) (names : Names) (ts : List Token) (b : StmtStart) → b ≡ begins_block → and_then (stmt_by (stmt d) d b names (spot ts) ts) only_block ≡ block_behind d names (spot ts) (skip ts)
+unfolding items_in
 block_by d names ts b e = rw e (only (spot ts) (items (stmt d) d names (skip ts)))
 
-pub body_is : (d : ℕ) (names : Names) (ts : List Token) → 0 < d → next_is p.LeftBrace ts ≡ true → body (stmt d) d names ts ≡ whole_block (d - 1) names ts
+pub body_is : (d : ℕ) (names : Names) (ts : List Token) → 0 < d → next_is p.LeftBrace ts ≡ true → body (stmt d) d names ts ≡ block_behind (d - 1) names (spot ts) (skip ts)
 body_is zero names ts h e = absurd (omega (arith, h))
-body_is (suc d) names ts h e = let less : suc d - 1 ≡ d = omega arith in rw (less, e) (block_by d names ts (stmt_start ts) (starts_block ts e))
+body_is (suc d) names ts h e =
+    let less : suc d - 1 ≡ d = omega arith in
+    branch_true (next_is p.LeftBrace ts) (stmt (suc d) names >>= only_block) refuse ts e ∙ block_by d names ts (stmt_start ts) (starts_block ts e) ∙ ap (λ n. block_behind n names (spot ts) (skip ts)) (sym less)
+
+pub no_brace : (d : ℕ) (names : Names) (ts : List Token) → next_is p.LeftBrace ts ≡ false → body (stmt d) d names ts ≡ Err ts
+no_brace d names ts e = rw e refl
 
 either : (names : Names) (ts : List Token) (b : Bool) → branch b (stmt zero names >>= only_block) refuse ts ≡ Err ts
 either names ts true = refl
 either names ts false = refl
-
-pub no_brace : (d : ℕ) (names : Names) (ts : List Token) → next_is p.LeftBrace ts ≡ false → body (stmt d) d names ts ≡ Err ts
-no_brace d names ts e = rw e refl
 
 pub no_body : (d : ℕ) (names : Names) (ts : List Token) → d ≡ 0 → body (stmt d) d names ts ≡ Err ts
 no_body zero names ts h = either names ts (next_is p.LeftBrace ts)

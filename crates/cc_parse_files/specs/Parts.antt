@@ -47,15 +47,14 @@ abbrev pub labelled_at : ℕ → Names → Parser (ItemTree Spot)
 labelled_at d names = λ ts. label_by (stmt d) d (stmt_start ts) names (spot ts) ts
 
 -- statements behind their first token, where statements inside are no deeper than the number
-abbrev pub block_behind : ℕ → Names → Spot → Parser (BlockTree Spot)
-block_behind d names n = (λ is. block n (gathered_items is)) <$> items (stmt d) d names
+unfoldable pub items_in : ℕ → Names → Parser (List (ItemTree Spot))
+items_in d names = items (stmt d) d names
 
--- a block from its brace on
-abbrev pub whole_block : ℕ → Names → Parser (BlockTree Spot)
-whole_block d names = λ ts. block_behind d names (spot ts) (skip ts)
+abbrev pub block_behind : ℕ → Names → Spot → Parser (BlockTree Spot)
+block_behind d names n = (λ is. block n (gathered_items is)) <$> items_in d names
 
 abbrev pub block_at : ℕ → Names → Spot → Parser (StmtTree Spot)
-block_at d names n = (λ is. compound (block n (gathered_items is))) <$> items (stmt d) d names
+block_at d names n = compound <$> block_behind d names n
 
 abbrev pub break_at : Spot → Parser (StmtTree Spot)
 break_at n = take p.Semicolon >> pure (break n)

@@ -51,21 +51,6 @@ impl<
         Ok(Block { note: spot, items })
     }
 
-    /// A block from its brace on.
-    pub fn whole_block(
-        &self,
-        tokens: &mut Cursor<'_>,
-        names: &mut TypedefNames,
-    ) -> Result<Block<Spot>, Fault>
-        requires nests { NestsStmt self.now.depth (F.pre self.now.read) (F.post self.now.read) }
-        ensures gives { Gives view_block (parts.whole_block self.now.depth names.old tokens.old) result tokens.new }
-        ensures after { IfOk result (λ b. names.new ≡ typedefs.after_block (view_block b) names.old) }
-    {
-        let spot = tokens.spot();
-        tokens.skip();
-        self.block(tokens, names, spot)
-    }
-
     /// What stands in a block, up to the brace that closes it.
     pub fn items(
         &self,
@@ -73,7 +58,7 @@ impl<
         names: &mut TypedefNames,
     ) -> Result<Items<Item<Spot>>, Fault>
         requires nests { NestsStmt self.now.depth (F.pre self.now.read) (F.post self.now.read) }
-        ensures gives { Gives (map view_item) (spec.items (spec.stmt self.now.depth) self.now.depth names.old tokens.old) result tokens.new }
+        ensures gives { Gives (map view_item) (parts.items_in self.now.depth names.old tokens.old) result tokens.new }
         ensures after { IfOk result (λ is. names.new ≡ typedefs.after_items (items_of is) names.old) }
     {
         let mut found = Items::new(self.alloc);

@@ -219,7 +219,7 @@ fn continue_statement(
 }
 
 /// Whether the next token begins a statement. A typedef name doesn't.
-fn begins_statement(tokens: &Cursor<'_>, names: &TypedefNames) -> bool {
+pub fn begins_statement(tokens: &Cursor<'_>, names: &TypedefNames) -> bool {
     match tokens.stmt_start() {
         StmtStart::Case | StmtStart::Default => false,
         StmtStart::Other => tokens.start() != Start::Nothing && !tokens.starts_spec(names),
@@ -273,11 +273,13 @@ pub fn body(
         tokens.mark();
         return Err(Fault::Refused);
     };
+    let spot = tokens.spot();
+    tokens.skip();
     Statements {
         alloc,
         depth: inside,
         read: stmt,
         read_block: body,
     }
-    .whole_block(tokens, names)
+    .block(tokens, names, spot)
 }

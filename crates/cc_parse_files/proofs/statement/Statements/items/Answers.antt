@@ -6,6 +6,7 @@ use Rattle.cc_grammar.specs.Names as typedefs
 use Rattle.cc_grammar.specs.Reading as spec
 use Rattle.cc_syntax.specs.Views.{view_item}
 use Rattle.cc_parse_tokens.proofs.Turns.{one_more, no_more}
+use Rattle.cc_parse_files.specs.Parts.{items_in}
 use Rattle.cc_parse_files.specs.Turns.{items_from}
 use Rattle.cc_parse_files.proofs.ItemTurns.{items_is, after_push, closes, item_fails, goes_on}
 use Rattle.cc_parse_files.proofs.statement.Statements.items.Goals as goal
@@ -18,16 +19,18 @@ loop-turn-init g c =
     record { reads = rw (turns, none) (items_is (spec.stmt d) d c.args.names.now c.args.tokens.now); names = rw none refl }
 
 pub returns-then-next_is-clause-gives : goal.returns-then-next_is-clause-gives
+unfolding items_in
 returns-then-next_is-clause-gives g c =
     let d = c.args.self.now.depth in
     let e = one_more (λ n. items_from (spec.stmt d) d n c.loop-turn.names (map view_item c.loop-turn.found) c.loop-turn.tokens) _ c.loop-turn._turn c.loop-turn-test.true c.loop-turn.invariant.reads in
     rw c.skip.ensures (e ∙ closes (spec.stmt d) d _ c.loop-turn.names (map view_item c.loop-turn.found) c.loop-turn.tokens (sym c.next_is.ensures ∙ c.if-next_is.true))
 
 pub returns-in_err-item-clause-gives : goal.returns-in_err-item-clause-gives
+unfolding items_in
 returns-in_err-item-clause-gives g c =
     let d = c.args.self.now.depth in
     let e = one_more (λ n. items_from (spec.stmt d) d n c.loop-turn.names (map view_item c.loop-turn.found) c.loop-turn.tokens) _ c.loop-turn._turn c.loop-turn-test.true c.loop-turn.invariant.reads in
-    let p = err_from_is_err_and c.from_residual-in_err-item.result c.from_residual-in_err-item.ensures.1 in
+    let p = err_from_is_err_and c.from_residual.result c.from_residual.ensures.1 in
     rw (p.1, p.2) (λ s. e ∙ item_fails (spec.stmt d) d _ c.loop-turn.names (map view_item c.loop-turn.found) c.loop-turn.tokens c.item.new.tokens (sym c.next_is.ensures ∙ c.if-next_is.false) (c.in_err-item.ensures.gives s))
 
 pub loop-turn-preserved : goal.loop-turn-preserved
@@ -42,7 +45,7 @@ loop-turn-preserved g c =
     }
 
 pub returns-clause-gives : goal.returns-clause-gives
-unfolding items_from
+unfolding items_from items_in
 returns-clause-gives g c =
     let d = c.args.self.now.depth in
     let e = no_more (λ n. items_from (spec.stmt d) d n c.loop-turn.names (map view_item c.loop-turn.found) c.loop-turn.tokens) _ c.loop-turn._turn c.loop-turn-test.false c.loop-turn.invariant.reads in
