@@ -10,6 +10,8 @@ mod expr;
 mod file;
 mod note;
 mod stmt;
+#[cfg(test)]
+mod tests;
 
 pub use expr::number_expr;
 pub use file::number_file;
