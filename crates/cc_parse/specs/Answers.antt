@@ -1,5 +1,5 @@
 -- What the parser answers.
-use Rattle.std.specs.Prelude.{◌≡◌, ℕ, ◌-◌, List, length, Err, ⊥, Unit}
+use Rattle.std.specs.Prelude.{◌≡◌, ℕ, ◌-◌, List, length, Err}
 use Rattle.cc_tree.specs.declared.place.Spot.{Spot}
 use Rattle.cc_lex.specs.declared.token.Token.{Token}
 use Rattle.cc_syntax.specs.Trees.{ExternalTree}

@@ -5,9 +5,9 @@
 #![tactic(auto)]
 
 mod fault;
-mod parse;
+mod file;
 #[cfg(test)]
 mod tests;
 
 pub use fault::ParseFault;
-pub use parse::{MAX_DEPTH, parse};
+pub use file::{MAX_DEPTH, parse};
