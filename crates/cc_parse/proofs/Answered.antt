@@ -1,5 +1,5 @@
 -- What reading gives is the one tree, and where it gives none there is none.
-use Rattle.std.proofs.Common.{◌≡◌, List, [], Ok, Err}
+use Rattle.std.proofs.Common.{◌≡◌, List, Ok, Err}
 use Rattle.cc_tree.specs.declared.place.Spot.{Spot}
 use Rattle.cc_lex.specs.declared.token.Token.{Token}
 use Rattle.cc_syntax.specs.Trees.{ExternalTree}

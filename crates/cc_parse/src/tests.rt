@@ -134,30 +134,46 @@ fn other_faults(rt: HostRuntime) -> Result<(), Fail> {
 }
 
 /// `head`, then this many times `open`, then `inner`, then as many times `close`, then `tail`.
-fn nested(
-    alloc: Global,
-    parts: (&[u8], &[u8], &[u8], &[u8], &[u8]),
-    count: u32,
-) -> Result<Vec<u8>, Memory> {
-    let mut text = parts.0.to_vec(alloc)?;
+fn nested(alloc: Global, parts: &[&'static [u8]; 5], count: u32) -> Result<Vec<u8>, Memory> {
+    let mut text = parts[0].to_vec(alloc)?;
     for _ in 0..count {
-        text.extend_from_slice(parts.1)?;
+        text.extend_from_slice(parts[1])?;
     }
-    text.extend_from_slice(parts.2)?;
+    text.extend_from_slice(parts[2])?;
     for _ in 0..count {
-        text.extend_from_slice(parts.3)?;
+        text.extend_from_slice(parts[3])?;
     }
-    text.extend_from_slice(parts.4)?;
+    text.extend_from_slice(parts[4])?;
     Ok(text)
 }
 
-type Nested = ((&[u8], &[u8], &[u8], &[u8], &[u8]), u32, &str);
+/// A text as [`nested`] makes it, how often the middle is nested, and what the parser says of it.
+#[derive(Clone, Copy)]
+struct Nested {
+    parts: [&'static [u8]; 5],
+    count: u32,
+    shown: &'static str,
+}
+
+fn row(parts: [&'static [u8]; 5], count: u32, shown: &'static str) -> Nested {
+    Nested {
+        parts,
+        count,
+        shown,
+    }
+}
 
 fn assert_nested(rt: &impl Abort, alloc: Global, rows: &[Nested]) -> Result<(), Fail> {
     for row in rows {
-        let bytes = nested(alloc, row.0, row.1)?;
+        let bytes = nested(alloc, &row.parts, row.count)?;
         let text = shown(alloc, bytes.as_slice())?;
-        assert_eq!(rt; text.as_str(), row.2, "{:?} {}", row.0.1, row.1);
+        assert_eq!(rt;
+            text.as_str(),
+            row.shown,
+            "{:?} {}",
+            row.parts[1],
+            row.count
+        );
     }
     Ok(())
 }
@@ -165,40 +181,40 @@ fn assert_nested(rt: &impl Abort, alloc: Global, rows: &[Nested]) -> Result<(), 
 #[test]
 fn depths(rt: HostRuntime) -> Result<(), Fail> {
     let rows: &[Nested] = &[
-        ((b"void f(void) ", b"{", b"", b"}", b""), 64, "a file"),
-        ((b"void f(void) ", b"{", b"", b"}", b""), 65, "too deep 69"),
-        ((b"void f(void) {", b"(", b"1", b")", b"; }"), 61, "a file"),
-        (
-            (b"void f(void) {", b"(", b"1", b")", b"; }"),
+        row([b"void f(void) ", b"{", b"", b"}", b""], 64, "a file"),
+        row([b"void f(void) ", b"{", b"", b"}", b""], 65, "too deep 69"),
+        row([b"void f(void) {", b"(", b"1", b")", b"; }"], 61, "a file"),
+        row(
+            [b"void f(void) {", b"(", b"1", b")", b"; }"],
             62,
             "too deep 68",
         ),
-        (
-            (b"void f(void) {", b"-", b"sizeof (int)", b"", b"; }"),
+        row(
+            [b"void f(void) {", b"-", b"sizeof (int)", b"", b"; }"],
             61,
             "a file",
         ),
-        (
-            (b"void f(void) {", b"-", b"sizeof (1)", b"", b"; }"),
+        row(
+            [b"void f(void) {", b"-", b"sizeof (1)", b"", b"; }"],
             61,
             "too deep 69",
         ),
-        (
-            (b"void f(void) {", b"a + ", b"a", b"", b"; }"),
+        row(
+            [b"void f(void) {", b"a + ", b"a", b"", b"; }"],
             61,
             "a file",
         ),
-        (
-            (b"void f(void) {", b"a + ", b"a", b"", b"; }"),
+        row(
+            [b"void f(void) {", b"a + ", b"a", b"", b"; }"],
             62,
             "too deep 129",
         ),
-        ((b"int ", b"*", b"p", b"", b";"), 63, "a file"),
-        ((b"int ", b"*", b"p", b"", b";"), 64, "too deep 65"),
-        ((b"int a", b"[1]", b"", b"", b";"), 63, "a file"),
-        ((b"int a", b"[1]", b"", b"", b";"), 64, "too deep 191"),
-        ((b"int a[] = ", b"{", b"1", b"}", b";"), 63, "a file"),
-        ((b"int a[] = ", b"{", b"1", b"}", b";"), 64, "too deep 69"),
+        row([b"int ", b"*", b"p", b"", b";"], 63, "a file"),
+        row([b"int ", b"*", b"p", b"", b";"], 64, "too deep 65"),
+        row([b"int a", b"[1]", b"", b"", b";"], 63, "a file"),
+        row([b"int a", b"[1]", b"", b"", b";"], 64, "too deep 191"),
+        row([b"int a[] = ", b"{", b"1", b"}", b";"], 63, "a file"),
+        row([b"int a[] = ", b"{", b"1", b"}", b";"], 64, "too deep 69"),
     ];
     assert_nested(&rt, rt.alloc(), rows)
 }

@@ -4,12 +4,12 @@ use Rattle.cc_tree.specs.declared.place.Spot.{Spot}
 use Rattle.cc_lex.specs.declared.token.Token.{Token}
 use Rattle.cc_lex.specs.declared.punct.Punct.{Punct}
 use Rattle.cc_lex.specs.declared.punct.Punct.TheVariants as p
-use Rattle.cc_syntax.specs.Trees.{ExprTree, StartTree, StmtTree, return}
+use Rattle.cc_syntax.specs.Trees.{ExprTree, StartTree, return}
 use Rattle.cc_grammar.specs.Classes.{next_is}
 use Rattle.cc_grammar.specs.Names.{Names, after_start}
 use Rattle.cc_grammar.specs.Outcomes.{Outcome, Parser, and_then, ◌>>=◌, ◌>>◌, pure, take}
 use Rattle.cc_grammar.specs.Reading.{stmt, clause_until, start_clause, for_behind}
-use Rattle.cc_parse_files.specs.Parts.{ended_clause, for_body, for_each, for_test, for_at, return_at}
+use Rattle.cc_parse_files.specs.Parts.{for_body, for_each, for_test, for_at, return_at}
 
 bind_same : {A B : Type 0} (o : Outcome A) (f g : A → Parser B) → ((x : A) (us : List Token) → f x us ≡ g x us) → and_then o f ≡ and_then o g
 bind_same (Ok y) f g e = e y.0 y.1

@@ -1,12 +1,12 @@
 -- The declarators of a declaration turn by turn are those of the grammar, and so are the names after them.
-use Rattle.std.proofs.Common.{◌≡◌, refl, ℕ, zero, suc, Bool, true, false, List, [], ◌∷◌, ◌++◌, length, Option, Result, Ok, Err, sym, ap, ◌∙◌}
+use Rattle.std.proofs.Common.{◌≡◌, refl, ℕ, zero, suc, Bool, true, false, List, [], ◌∷◌, ◌++◌, length, Option, Ok, Err, sym, ◌∙◌}
 use Rattle.cc_tree.specs.declared.place.Spot.{Spot}
 use Rattle.cc_lex.specs.declared.token.Token.{Token}
 use Rattle.cc_lex.specs.declared.punct.Punct.TheVariants as p
 use Rattle.cc_syntax.specs.Trees.{DeclTree, InitTree, init, ValueTree}
 use Rattle.cc_grammar.specs.Classes.{next_is, skip}
 use Rattle.cc_grammar.specs.Names.{Names, after_declarator, after_inits}
-use Rattle.cc_grammar.specs.Outcomes.{Outcome, Parser, and_then, ◌>>=◌, pure, ◌<$>◌}
+use Rattle.cc_grammar.specs.Outcomes.{Outcome, and_then, ◌>>=◌, pure, ◌<$>◌}
 use Rattle.cc_grammar.specs.Reading.{branch, where_next, skipping, given, readers, with_name, inits_behind, inits}
 use Rattle.cc_parse_tokens.proofs.ByTurns.{before, nothing_before, one_more}
 use Rattle.cc_parse_files.specs.Turns.{inits_from}

@@ -6,12 +6,12 @@ use Rattle.cc_lex.specs.declared.punct.Punct.{Punct}
 use Rattle.cc_lex.specs.declared.punct.Punct.TheVariants as p
 use Rattle.cc_syntax.specs.Trees.{ExprTree, DeclTree, SpecTrees, DeclarationTree, declaration, StartTree, start_declaration, StmtTree, compound, empty, if_else, switch, while_loop, do_loop, for_loop, break, continue, return, plain, BlockTree, block, ItemTree, declares, does, ExternalTree, outer_declaration, definition}
 use Rattle.cc_syntax.specs.Views.{gathered_items}
-use Rattle.cc_grammar.specs.Classes.{next_is, skip, spot, begins_case, begins_default, stmt_start}
+use Rattle.cc_grammar.specs.Classes.{next_is, spot, begins_case, begins_default, stmt_start}
 use Rattle.cc_grammar.specs.Names.{Names, has_typedef, after_start, after_stmt}
 use Rattle.cc_grammar.specs.Outcomes.{Parser, ◌>>=◌, ◌>>◌, pure, ◌<$>◌, refuse, take, take_key}
 use Rattle.cc_parse_tokens.specs.declared.class.StmtStart.{StmtStart}
 use Rattle.cc_parse_tokens.specs.declared.class.StmtStart.TheVariants as s
-use Rattle.cc_grammar.specs.Reading.{skipping, readers, with_name, spot_or, inits, stmt, declaration_at, items, condition, body, else_behind, clause_until, start_clause, for_behind, counted, label_by, stmt_by, external_behind}
+use Rattle.cc_grammar.specs.Reading.{skipping, readers, with_name, spot_or, inits, stmt, declaration_at, items, condition, body, else_behind, clause_until, start_clause, counted, label_by, stmt_by, external_behind}
 
 -- a declaration behind its specifiers, where declarators follow
 abbrev pub declared : ℕ → Names → Spot → SpecTrees Spot → Parser (DeclarationTree Spot)

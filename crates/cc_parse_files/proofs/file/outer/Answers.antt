@@ -1,4 +1,4 @@
-use Rattle.std.proofs.Common.{◌≡◌, map}
+use Rattle.std.proofs.Common.{map}
 use Rattle.std.proofs.lemmas.Result.{err_from_is_err_and}
 use Rattle.cc_syntax.specs.Views.{view_declarator, view_init, specs_of}
 use Rattle.cc_parse_files.proofs.Externals.{inits_fail, sign_fails, outer_read}
