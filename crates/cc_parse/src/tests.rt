@@ -190,12 +190,12 @@ fn depths(rt: HostRuntime) -> Result<(), Fail> {
             "too deep 68",
         ),
         row(
-            [b"void f(void) {", b"-", b"sizeof (int)", b"", b"; }"],
+            [b"void f(void) {", b"- ", b"sizeof (int)", b"", b"; }"],
             61,
             "a file",
         ),
         row(
-            [b"void f(void) {", b"-", b"sizeof (1)", b"", b"; }"],
+            [b"void f(void) {", b"- ", b"sizeof (1)", b"", b"; }"],
             61,
             "too deep 69",
         ),
