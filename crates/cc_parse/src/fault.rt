@@ -3,9 +3,10 @@
 /// Why tokens are no file of the grammar.
 #[derive(Clone, Copy, Debug, PartialEq, Eq)]
 pub enum ParseFault {
-    /// The tokens are none up to and with this one, counted from 0; at the end it is the number of tokens.
+    /// There is no tree. Reading from left to right stops at this token, counted from 0; at the end it is the number of
+    /// tokens.
     Syntax { token: u64 },
-    /// The same, where this token was refused for its depth alone.
+    /// The same, where this token was refused for its depth alone. No clause says which of the two it is.
     TooDeep { token: u64 },
     /// Memory was wanting. No clause says when.
     Memory,

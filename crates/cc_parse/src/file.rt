@@ -16,8 +16,9 @@ pub const MAX_DEPTH: u32 = 64;
 
 /// The one orderly tree, no deeper than [`MAX_DEPTH`], that the tokens spell, each node with its spot (C17 6.9).
 ///
-/// `Syntax` and `TooDeep` come exactly where there is none; their token is the one at which reading from left to right
-/// stops. Which of the two it is no clause says.
+/// Want of memory aside, which may come for any tokens, `Syntax` and `TooDeep` come exactly where there is no such tree;
+/// their token is the one at which reading from left to right stops. Which of the two it is no clause says. Takes time in
+/// proportion to the tokens.
 #[tactic(auto, using(crate::proofs::Answered::is_the_tree, crate::proofs::Answered::has_no_tree))]
 pub fn parse(alloc: Global, tokens: &TokenList) -> Result<Unit, ParseFault>
     ensures found { IfOk result (λ f. IsTheTree tokens.now (view_file f)) }

@@ -133,6 +133,46 @@ fn other_faults(rt: HostRuntime) -> Result<(), Fail> {
     assert_rows(&rt, rt.alloc(), rows)
 }
 
+#[test]
+fn types_and_names(rt: HostRuntime) -> Result<(), Fail> {
+    let rows: &[(&[u8], &str)] = &[
+        (b"typedef int T; void f(void) { (T)x; }", "a file"),
+        (b"typedef int T; void f(void) { (T)(x) = 1; }", "syntax 16"),
+        (b"void f(void) { (x)(y) = 1; }", "a file"),
+        (
+            b"typedef int T; void f(void) { sizeof (T)[1]; }",
+            "syntax 14",
+        ),
+        (b"void f(void) { sizeof (x)[1]; }", "a file"),
+        (b"typedef int T; void f(void) { T * x = 0; }", "a file"),
+        (b"void f(void) { a * x = 0; }", "syntax 9"),
+        (b"typedef int T; struct s { int T; };", "syntax 9"),
+        (b"typedef int T, U[sizeof (T)]; T a; U b;", "a file"),
+        (b"void f(void) { ++(int)a; }", "syntax 8"),
+        (b"void f(void) { a + b = c; }", "syntax 9"),
+        (b"void f(void) { \"a\" \"b\" c; }", "syntax 8"),
+    ];
+    assert_rows(&rt, rt.alloc(), rows)
+}
+
+#[test]
+fn statements_and_arrays(rt: HostRuntime) -> Result<(), Fail> {
+    let rows: &[(&[u8], &str)] = &[
+        (
+            b"void f(int a) { switch (a) { case 1: case 2: } }",
+            "a file",
+        ),
+        (b"void f(int a) { switch (a) { b; } }", "a file"),
+        (b"void f(int a) { switch (a) case 1: ; }", "syntax 11"),
+        (b"void f(void) { if (1) default: ; }", "syntax 10"),
+        (b"void f(void) { if (a) b; c; else d; }", "syntax 14"),
+        (b"int a[] = { [0] = 1 };", "syntax 6"),
+        (b"int f(int a[const 3]);", "syntax 6"),
+        (b"struct s { int : 3; };", "syntax 4"),
+    ];
+    assert_rows(&rt, rt.alloc(), rows)
+}
+
 /// `head`, then this many times `open`, then `inner`, then as many times `close`, then `tail`.
 fn nested(alloc: Global, parts: &[&'static [u8]; 5], count: u32) -> Result<Vec<u8>, Memory> {
     let mut text = parts[0].to_vec(alloc)?;
@@ -215,6 +255,115 @@ fn depths(rt: HostRuntime) -> Result<(), Fail> {
         row([b"int a", b"[1]", b"", b"", b";"], 64, "too deep 191"),
         row([b"int a[] = ", b"{", b"1", b"}", b";"], 63, "a file"),
         row([b"int a[] = ", b"{", b"1", b"}", b";"], 64, "too deep 69"),
+    ];
+    assert_nested(&rt, rt.alloc(), rows)
+}
+
+#[test]
+fn depths_of_statements(rt: HostRuntime) -> Result<(), Fail> {
+    let rows: &[Nested] = &[
+        row([b"void f(void) ", b"{", b")", b"}", b""], 64, "syntax 69"),
+        row([b"void f(void) ", b"{", b"int a;", b"}", b""], 62, "a file"),
+        row(
+            [b"void f(void) ", b"{", b"int a;", b"}", b""],
+            63,
+            "too deep 69",
+        ),
+        row(
+            [b"void f(void) ", b"{", b"case 1:", b"}", b""],
+            63,
+            "too deep 69",
+        ),
+        row(
+            [b"void f(void) ", b"{", b"default:", b"}", b""],
+            63,
+            "a file",
+        ),
+        row(
+            [b"void f(void) ", b"{", b"do case 1: ;", b"}", b""],
+            63,
+            "syntax 69",
+        ),
+        row(
+            [b"void f(void) ", b"{", b"switch (1) { }", b"}", b""],
+            63,
+            "too deep 70",
+        ),
+        row(
+            [b"void f(void) ", b"{", b"for (int i; ; ) ;", b"}", b""],
+            63,
+            "too deep 70",
+        ),
+        row(
+            [b"typedef int T; int a[] = ", b"{", b"T", b"}", b";"],
+            64,
+            "syntax 73",
+        ),
+        row([b"int a[] = ", b"{", b"}", b"}", b";"], 64, "syntax 69"),
+    ];
+    assert_nested(&rt, rt.alloc(), rows)
+}
+
+#[test]
+fn depths_of_expressions(rt: HostRuntime) -> Result<(), Fail> {
+    let rows: &[Nested] = &[
+        row(
+            [b"void f(void) {", b"(", b"}", b")", b"; }"],
+            62,
+            "syntax 68",
+        ),
+        row(
+            [b"void f(void) {", b"(", b"(int)1", b")", b"; }"],
+            61,
+            "too deep 70",
+        ),
+        row(
+            [b"void f(void) {", b"(", b"(int){", b")", b"; }"],
+            61,
+            "syntax 70",
+        ),
+        row(
+            [b"void f(void) {", b"- ", b"sizeof (int *)", b"", b"; }"],
+            61,
+            "too deep 70",
+        ),
+        row(
+            [b"void f(void) {", b"- ", b"sizeof (int x)", b"", b"; }"],
+            61,
+            "syntax 70",
+        ),
+        row(
+            [b"void f(void) {", b"- ", b"sizeof (}", b"", b"; }"],
+            61,
+            "syntax 69",
+        ),
+        row(
+            [b"void f(void) {", b"- ", b"a()", b"", b"; }"],
+            61,
+            "too deep 68",
+        ),
+        row(
+            [b"void f(void) {", b"a + ", b"a = a", b"", b"; }"],
+            61,
+            "syntax 129",
+        ),
+        row(
+            [b"", b"struct { ", b"int a; ", b"} a; ", b""],
+            64,
+            "too deep 129",
+        ),
+        row(
+            [b"", b"struct { ", b"int; ", b"} a; ", b""],
+            64,
+            "syntax 129",
+        ),
+        row([b"int ", b"(", b"1", b")", b";"], 64, "syntax 65"),
+        row([b"int ", b"*", b"[1]", b"", b";"], 64, "syntax 65"),
+        row(
+            [b"typedef int T; int ", b"*", b"T", b"", b";"],
+            64,
+            "syntax 69",
+        ),
     ];
     assert_nested(&rt, rt.alloc(), rows)
 }

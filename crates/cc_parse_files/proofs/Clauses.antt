@@ -5,7 +5,7 @@ use Rattle.cc_lex.specs.declared.token.Token.{Token}
 use Rattle.cc_lex.specs.declared.punct.Punct.{Punct}
 use Rattle.cc_lex.specs.declared.punct.Punct.TheVariants as p
 use Rattle.cc_syntax.specs.Trees.{ExprTree, StartTree, return}
-use Rattle.cc_grammar.specs.Classes.{next_is}
+use Rattle.cc_grammar.specs.Classes.{next_is, skip}
 use Rattle.cc_grammar.specs.Names.{Names, after_start}
 use Rattle.cc_grammar.specs.Outcomes.{Outcome, Parser, and_then, ◌>>=◌, ◌>>◌, pure, take}
 use Rattle.cc_grammar.specs.Reading.{stmt, clause_until, start_clause, for_behind}
@@ -42,10 +42,10 @@ behind_is d names n start ts =
     (λ test us. second d after n start test (take p.Semicolon us))
     ∙ sym (sign_behind p.Semicolon (clause_until (stmt d) d after (next_is p.Semicolon) ts) (for_each d after n start))
 
-pub for_is : (d : ℕ) (names : Names) (n : Spot) (ts : List Token) → (take p.LeftParen >> start_clause (stmt d) d names >>= for_behind (stmt d) d names n) ts ≡ for_at d names n ts
+pub for_is : (d : ℕ) (names : Names) (n : Spot) (ts : List Token) → (take p.LeftParen >> start_clause (stmt d) d names >>= for_behind (stmt d) d names n) (skip ts) ≡ for_at d names n ts
 for_is d names n ts =
-    bind_same ((take p.LeftParen >> start_clause (stmt d) d names) ts) (for_behind (stmt d) d names n) (λ start. for_test d (after_start start names) n start) (λ start us. behind_is d names n start us)
+    bind_same ((take p.LeftParen >> start_clause (stmt d) d names) (skip ts)) (for_behind (stmt d) d names n) (λ start. for_test d (after_start start names) n start) (λ start us. behind_is d names n start us)
 
 pub return_is : (d : ℕ) (names : Names) (n : Spot) (ts : List Token)
-    → (clause_until (stmt d) d names (next_is p.Semicolon) >>= (λ e. take p.Semicolon >> pure (return n e))) ts ≡ return_at d names n ts
-return_is d names n ts = sym (sign_behind p.Semicolon (clause_until (stmt d) d names (next_is p.Semicolon) ts) (λ e. pure (return n e)))
+    → (clause_until (stmt d) d names (next_is p.Semicolon) >>= (λ e. take p.Semicolon >> pure (return n e))) (skip ts) ≡ return_at d names n ts
+return_is d names n ts = sym (sign_behind p.Semicolon (clause_until (stmt d) d names (next_is p.Semicolon) (skip ts)) (λ e. pure (return n e)))

@@ -1,15 +1,19 @@
 -- A statement and a block, opened by one level.
 use Rattle.std.proofs.Common.{◌≡◌, ◌<◌, ◌-◌, refl, ℕ, zero, suc, Bool, true, false, List, [], ◌∷◌, Ok, Err, sym, ap, ◌∙◌, arith}
+use denote.Enum.Bare.{same_true}
 use Rattle.cc_tree.specs.declared.place.Spot.{Spot}
 use Rattle.cc_lex.specs.declared.token.Token.{Token}
+use Rattle.cc_lex.specs.declared.token.TokenKind.{TokenKind}
+use Rattle.cc_lex.specs.declared.token.TokenKind.TheVariants as kind
+use Rattle.cc_lex.specs.declared.punct.Punct.{Punct}
 use Rattle.cc_lex.specs.declared.punct.Punct.TheVariants as p
+use Rattle.cc_lex.specs.contracts.punct.Punct as puncts
 use Rattle.cc_syntax.specs.Trees.{ItemTree, compound, block}
 use Rattle.cc_syntax.specs.Views.{gathered_items}
-use Rattle.cc_grammar.specs.Classes.{next_is, skip, spot, stmt_start, stmt_kind, StmtStart, begins_block}
+use Rattle.cc_grammar.specs.Classes.{is_punct, next_is, skip, spot, stmt_start, stmt_kind, StmtStart, begins_block}
 use Rattle.cc_grammar.specs.Names.{Names}
-use Rattle.cc_grammar.specs.Outcomes.{Outcome, and_then, ◌>>=◌, pure, refuse}
+use Rattle.cc_grammar.specs.Outcomes.{Outcome, Parser, and_then, ◌>>=◌, pure, refuse}
 use Rattle.cc_grammar.specs.Reading.{branch, stmt, stmt_by, items, only_block, body}
-use Rattle.cc_parse_laws.proofs.Steps.{punct_kind, branch_true}
 use Rattle.cc_parse_files.specs.Parts.{items_in, block_behind, stmt_at}
 
 pub stmt_is : (d : ℕ) (names : Names) (ts : List Token) → 0 < d → stmt d names ts ≡ stmt_at (d - 1) names ts
@@ -19,6 +23,18 @@ stmt_is (suc d) names ts h = let less : suc d - 1 ≡ d = omega arith in rw less
 pub no_stmt : (d : ℕ) (names : Names) (ts : List Token) → d ≡ 0 → stmt d names ts ≡ Err ts
 no_stmt zero names ts h = refl
 no_stmt (suc d) names ts h = absurd (omega (arith, h))
+
+punct_kind : (s : Punct) (k : TokenKind) → is_punct s k ≡ true → k ≡ kind.Punct s
+punct_kind s (kind.Punct t) e = ap (λ x. kind.Punct x) (sym (same_true puncts.the_type tt s t e))
+punct_kind s (kind.Keyword w) e = absurd cc
+punct_kind s (kind.Identifier x) e = absurd cc
+punct_kind s (kind.Integer v c) e = absurd cc
+punct_kind s (kind.Character v) e = absurd cc
+punct_kind s (kind.Str bytes) e = absurd cc
+
+branch_true : {A : Type 0} (b : Bool) (p q : Parser A) (ts : List Token) → b ≡ true → branch b p q ts ≡ p ts
+branch_true true p q ts e = refl
+branch_true false p q ts e = absurd cc
 
 starts_block : (ts : List Token) → next_is p.LeftBrace ts ≡ true → stmt_start ts ≡ begins_block
 starts_block [] e = absurd cc

@@ -46,7 +46,7 @@ does_at d names = does <$> stmt d names
 abbrev pub labelled_at : ℕ → Names → Parser (ItemTree Spot)
 labelled_at d names = λ ts. label_by (stmt d) d (stmt_start ts) names (spot ts) ts
 
--- statements behind their first token, where statements inside are no deeper than the number
+-- statements, where statements inside are no deeper than the number
 unfoldable pub items_in : ℕ → Names → Parser (List (ItemTree Spot))
 items_in d names = items (stmt d) d names
 
@@ -54,13 +54,16 @@ abbrev pub block_behind : ℕ → Names → Spot → Parser (BlockTree Spot)
 block_behind d names n = (λ is. block n (gathered_items is)) <$> items_in d names
 
 abbrev pub block_at : ℕ → Names → Spot → Parser (StmtTree Spot)
-block_at d names n = compound <$> block_behind d names n
+block_at d names n = skipping (compound <$> block_behind d names n)
+
+abbrev pub empty_at : Spot → Parser (StmtTree Spot)
+empty_at n = skipping (pure (empty n))
 
 abbrev pub break_at : Spot → Parser (StmtTree Spot)
-break_at n = take p.Semicolon >> pure (break n)
+break_at n = skipping (take p.Semicolon >> pure (break n))
 
 abbrev pub continue_at : Spot → Parser (StmtTree Spot)
-continue_at n = take p.Semicolon >> pure (continue n)
+continue_at n = skipping (take p.Semicolon >> pure (continue n))
 
 abbrev pub branches : ℕ → Names → Spot → ExprTree Spot → Parser (StmtTree Spot)
 branches d names n c = stmt d names >>= else_behind (stmt d) d names n c
@@ -70,19 +73,19 @@ abbrev pub else_at : ℕ → Names → Spot → ExprTree Spot → StmtTree Spot 
 else_at d names n c s = if_else n c s <$> stmt d names
 
 abbrev pub if_at : ℕ → Names → Spot → Parser (StmtTree Spot)
-if_at d names n = condition (stmt d) d names >>= branches d names n
+if_at d names n = skipping (condition (stmt d) d names >>= branches d names n)
 
 abbrev pub switch_at : ℕ → Names → Spot → Parser (StmtTree Spot)
-switch_at d names n = condition (stmt d) d names >>= (λ e. switch n e <$> body (stmt d) d names)
+switch_at d names n = skipping (condition (stmt d) d names >>= (λ e. switch n e <$> body (stmt d) d names))
 
 abbrev pub while_at : ℕ → Names → Spot → Parser (StmtTree Spot)
-while_at d names n = condition (stmt d) d names >>= (λ c. while_loop n c <$> stmt d names)
+while_at d names n = skipping (condition (stmt d) d names >>= (λ c. while_loop n c <$> stmt d names))
 
 abbrev pub do_behind : ℕ → Names → Spot → StmtTree Spot → Parser (StmtTree Spot)
 do_behind d names n s = take_key k.While >> condition (stmt d) d names >>= (λ c. take p.Semicolon >> pure (do_loop n s c))
 
 abbrev pub do_at : ℕ → Names → Spot → Parser (StmtTree Spot)
-do_at d names n = stmt d names >>= (λ s. do_behind d (after_stmt s names) n s)
+do_at d names n = skipping (stmt d names >>= (λ s. do_behind d (after_stmt s names) n s))
 
 -- a clause with the sign behind it
 abbrev pub ended_clause : ℕ → Names → Punct → Parser (Option (ExprTree Spot))
@@ -99,26 +102,26 @@ abbrev pub for_test : ℕ → Names → Spot → StartTree Spot → Parser (Stmt
 for_test d names n start = ended_clause d names p.Semicolon >>= for_each d names n start
 
 abbrev pub for_at : ℕ → Names → Spot → Parser (StmtTree Spot)
-for_at d names n = take p.LeftParen >> start_clause (stmt d) d names >>= (λ start. for_test d (after_start start names) n start)
+for_at d names n = skipping (take p.LeftParen >> start_clause (stmt d) d names >>= (λ start. for_test d (after_start start names) n start))
 
 abbrev pub return_at : ℕ → Names → Spot → Parser (StmtTree Spot)
-return_at d names n = ended_clause d names p.Semicolon >>= (λ e. pure (return n e))
+return_at d names n = skipping (ended_clause d names p.Semicolon >>= (λ e. pure (return n e)))
 
 abbrev pub plain_at : ℕ → Names → Spot → Parser (StmtTree Spot)
 plain_at d names n = (readers names d).expr 1 >>= (λ e. take p.Semicolon >> pure (plain n e))
 
 -- by the class of its first token, as the code has it
 abbrev pub first_at : ℕ → StmtStart → Names → Spot → Parser (StmtTree Spot)
-first_at d s.Block names n = skipping (block_at d names n)
-first_at d s.Empty names n = skipping (pure (empty n))
-first_at d s.If names n = skipping (if_at d names n)
-first_at d s.Switch names n = skipping (switch_at d names n)
-first_at d s.While names n = skipping (while_at d names n)
-first_at d s.Do names n = skipping (do_at d names n)
-first_at d s.For names n = skipping (for_at d names n)
-first_at d s.Break names n = skipping (break_at n)
-first_at d s.Continue names n = skipping (continue_at n)
-first_at d s.Return names n = skipping (return_at d names n)
+first_at d s.Block names n = block_at d names n
+first_at d s.Empty names n = empty_at n
+first_at d s.If names n = if_at d names n
+first_at d s.Switch names n = switch_at d names n
+first_at d s.While names n = while_at d names n
+first_at d s.Do names n = do_at d names n
+first_at d s.For names n = for_at d names n
+first_at d s.Break names n = break_at n
+first_at d s.Continue names n = continue_at n
+first_at d s.Return names n = return_at d names n
 first_at d s.Case names n = refuse
 first_at d s.Default names n = refuse
 first_at d s.Other names n = plain_at d names n

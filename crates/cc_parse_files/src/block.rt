@@ -21,7 +21,7 @@ impl<
     F: Fn(Global, &mut Cursor<'_>, &mut TypedefNames, u32) -> Result<Stmt<Spot>, Fault>,
     G: Fn(Global, &mut Cursor<'_>, &mut TypedefNames, u32) -> Result<Block<Spot>, Fault>,
 > Statements<F, G> {
-    /// A block behind its brace, as a statement.
+    /// A block, as a statement.
     pub fn compound(
         &self,
         tokens: &mut Cursor<'_>,
@@ -32,6 +32,7 @@ impl<
         ensures gives { Gives view_stmt (parts.block_at self.now.depth names.old spot tokens.old) result tokens.new }
         ensures after { IfOk result (λ s. names.new ≡ typedefs.after_stmt (view_stmt s) names.old) }
     {
+        tokens.skip();
         let block = self.block(tokens, names, spot)?;
         Ok(Stmt::Block(block))
     }

@@ -34,7 +34,7 @@ impl<
         Ok(Boxed::new(self.alloc, found)?)
     }
 
-    /// `if` behind the word.
+    /// `if`.
     pub fn if_statement(
         &self,
         tokens: &mut Cursor<'_>,
@@ -45,6 +45,7 @@ impl<
         ensures gives { Gives view_stmt (parts.if_at self.now.depth names.old spot tokens.old) result tokens.new }
         ensures after { IfOk result (λ s. names.new ≡ typedefs.after_stmt (view_stmt s) names.old) }
     {
+        tokens.skip();
         let test = self.condition(tokens, names)?;
         self.branches(tokens, names, spot, test)
     }
@@ -87,7 +88,7 @@ impl<
         Ok(Stmt::IfElse(spot, test, yes, no))
     }
 
-    /// `switch` behind the word.
+    /// `switch`.
     pub fn switch_statement(
         &self,
         tokens: &mut Cursor<'_>,
@@ -98,6 +99,7 @@ impl<
         ensures gives { Gives view_stmt (parts.switch_at self.now.depth names.old spot tokens.old) result tokens.new }
         ensures after { IfOk result (λ s. names.new ≡ typedefs.after_stmt (view_stmt s) names.old) }
     {
+        tokens.skip();
         let test = self.condition(tokens, names)?;
         let body = self.body(tokens, names)?;
         Ok(Stmt::Switch(spot, test, body))

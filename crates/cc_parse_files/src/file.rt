@@ -150,7 +150,7 @@ fn externals(
 
 /// The file that the tokens are, no deeper than `depth` (C17 6.9).
 ///
-/// `Refused` tells that they are no file: the cursor stands at the first token with which they are none.
+/// `Refused` tells that they are none so shallow: the cursor stands where reading stopped.
 #[tactic(auto, using(crate::proofs::ExternalTurns::reading_is))]
 pub fn reading(alloc: Global, tokens: &mut Cursor<'_>, depth: u32) -> Result<FileTree<Spot>, Fault>
     ensures { Gives view_file (spec.reading depth tokens.old) result tokens.new }

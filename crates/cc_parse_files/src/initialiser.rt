@@ -5,9 +5,10 @@ ghost use Rattle.cc_syntax.specs.Views.{view, view_value};
 ghost use Rattle.cc_parse_tokens.specs.Gives.{Gives};
 ghost use Rattle.cc_parse_files.specs.Views.{braced};
 
+use crate::begin::begins_expression;
 use cc_lex::Punct;
 use cc_parse_expr::expr;
-use cc_parse_tokens::{Cursor, Fault, Start, TypedefNames};
+use cc_parse_tokens::{Cursor, Fault, TypedefNames};
 use cc_syntax::Value;
 use cc_tree::Spot;
 use sqlite_items::Items;
@@ -32,7 +33,7 @@ pub fn value(
     ensures { Gives view_value (spec.value names.now depth tokens.old) result tokens.new }
 {
     let Some(inside) = depth.checked_sub(1) else {
-        if tokens.next_is(Punct::LeftBrace) || tokens.start() != Start::Nothing {
+        if tokens.next_is(Punct::LeftBrace) || begins_expression(tokens, names) {
             tokens.mark();
         }
         return Err(Fault::Refused);

@@ -22,7 +22,7 @@ impl<
     F: Fn(Global, &mut Cursor<'_>, &mut TypedefNames, u32) -> Result<Stmt<Spot>, Fault>,
     G: Fn(Global, &mut Cursor<'_>, &mut TypedefNames, u32) -> Result<Block<Spot>, Fault>,
 > Statements<F, G> {
-    /// `while` behind the word.
+    /// `while`.
     pub fn while_statement(
         &self,
         tokens: &mut Cursor<'_>,
@@ -33,12 +33,13 @@ impl<
         ensures gives { Gives view_stmt (parts.while_at self.now.depth names.old spot tokens.old) result tokens.new }
         ensures after { IfOk result (λ s. names.new ≡ typedefs.after_stmt (view_stmt s) names.old) }
     {
+        tokens.skip();
         let test = self.condition(tokens, names)?;
         let body = self.boxed(tokens, names)?;
         Ok(Stmt::While(spot, test, body))
     }
 
-    /// `do` behind the word.
+    /// `do`.
     pub fn do_statement(
         &self,
         tokens: &mut Cursor<'_>,
@@ -49,6 +50,7 @@ impl<
         ensures gives { Gives view_stmt (parts.do_at self.now.depth names.old spot tokens.old) result tokens.new }
         ensures after { IfOk result (λ s. names.new ≡ typedefs.after_stmt (view_stmt s) names.old) }
     {
+        tokens.skip();
         let body = self.boxed(tokens, names)?;
         self.do_behind(tokens, names, spot, body)
     }
@@ -70,7 +72,7 @@ impl<
         Ok(Stmt::Do(spot, body, test))
     }
 
-    /// `for` behind the word.
+    /// `for`.
     pub fn for_statement(
         &self,
         tokens: &mut Cursor<'_>,
@@ -81,6 +83,7 @@ impl<
         ensures gives { Gives view_stmt (parts.for_at self.now.depth names.old spot tokens.old) result tokens.new }
         ensures after { IfOk result (λ s. names.new ≡ typedefs.after_stmt (view_stmt s) names.old) }
     {
+        tokens.skip();
         tokens.take(Punct::LeftParen)?;
         let start = self.start_clause(tokens, names)?;
         self.for_behind(tokens, names, spot, start)

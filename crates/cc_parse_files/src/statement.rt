@@ -8,9 +8,10 @@ ghost use Rattle.cc_parse_tokens.specs.Gives.{Gives};
 ghost use Rattle.cc_parse_files.specs.Nests.{NestsStmt, NestsBlock};
 ghost use Rattle.cc_grammar.specs.Classes as grammar;
 
+use crate::begin::begins_statement;
 use cc_lex::Punct;
 use cc_parse_expr::expr;
-use cc_parse_tokens::{Cursor, Fault, Start, StmtStart, TypedefNames};
+use cc_parse_tokens::{Cursor, Fault, StmtStart, TypedefNames};
 use cc_syntax::{Block, Expr, Stmt};
 use cc_tree::Spot;
 use std::alloc::Global;
@@ -116,53 +117,22 @@ impl<
         ensures after { IfOk result (λ s. names.new ≡ typedefs.after_stmt (view_stmt s) names.old) }
     {
         match start {
-            StmtStart::Case => Err(Fault::Refused),
-            StmtStart::Default => Err(Fault::Refused),
+            StmtStart::Block => self.compound(tokens, names, spot),
+            StmtStart::Empty => empty_statement(tokens, names, spot),
+            StmtStart::If => self.if_statement(tokens, names, spot),
+            StmtStart::Switch => self.switch_statement(tokens, names, spot),
+            StmtStart::While => self.while_statement(tokens, names, spot),
+            StmtStart::Do => self.do_statement(tokens, names, spot),
+            StmtStart::For => self.for_statement(tokens, names, spot),
+            StmtStart::Break => break_statement(tokens, names, spot),
+            StmtStart::Continue => continue_statement(tokens, names, spot),
+            StmtStart::Return => self.return_statement(tokens, names, spot),
+            StmtStart::Case | StmtStart::Default => Err(Fault::Refused),
             StmtStart::Other => self.plain_statement(tokens, names, spot),
-            StmtStart::Block => {
-                tokens.skip();
-                self.compound(tokens, names, spot)
-            }
-            StmtStart::Empty => {
-                tokens.skip();
-                Ok(Stmt::Empty(spot))
-            }
-            StmtStart::If => {
-                tokens.skip();
-                self.if_statement(tokens, names, spot)
-            }
-            StmtStart::Switch => {
-                tokens.skip();
-                self.switch_statement(tokens, names, spot)
-            }
-            StmtStart::While => {
-                tokens.skip();
-                self.while_statement(tokens, names, spot)
-            }
-            StmtStart::Do => {
-                tokens.skip();
-                self.do_statement(tokens, names, spot)
-            }
-            StmtStart::For => {
-                tokens.skip();
-                self.for_statement(tokens, names, spot)
-            }
-            StmtStart::Break => {
-                tokens.skip();
-                break_statement(tokens, names, spot)
-            }
-            StmtStart::Continue => {
-                tokens.skip();
-                continue_statement(tokens, names, spot)
-            }
-            StmtStart::Return => {
-                tokens.skip();
-                self.return_statement(tokens, names, spot)
-            }
         }
     }
 
-    /// `return` behind the word.
+    /// `return`.
     pub fn return_statement(
         &self,
         tokens: &mut Cursor<'_>,
@@ -172,6 +142,7 @@ impl<
         ensures gives { Gives view_stmt (parts.return_at self.now.depth names.old spot tokens.old) result tokens.new }
         ensures after { IfOk result (λ s. names.new ≡ typedefs.after_stmt (view_stmt s) names.old) }
     {
+        tokens.skip();
         let value = self.ended_clause(tokens, names, Punct::Semicolon)?;
         Ok(Stmt::Return(spot, value))
     }
@@ -192,7 +163,20 @@ impl<
     }
 }
 
-/// `break` behind the word.
+/// `;` alone.
+fn empty_statement(
+    tokens: &mut Cursor<'_>,
+    names: &mut TypedefNames,
+    spot: Spot,
+) -> Result<Stmt<Spot>, Fault>
+    ensures gives { Gives view_stmt (parts.empty_at spot tokens.old) result tokens.new }
+    ensures after { IfOk result (λ s. names.new ≡ typedefs.after_stmt (view_stmt s) names.old) }
+{
+    tokens.skip();
+    Ok(Stmt::Empty(spot))
+}
+
+/// `break`.
 fn break_statement(
     tokens: &mut Cursor<'_>,
     names: &mut TypedefNames,
@@ -201,11 +185,12 @@ fn break_statement(
     ensures gives { Gives view_stmt (parts.break_at spot tokens.old) result tokens.new }
     ensures after { IfOk result (λ s. names.new ≡ typedefs.after_stmt (view_stmt s) names.old) }
 {
+    tokens.skip();
     tokens.take(Punct::Semicolon)?;
     Ok(Stmt::Break(spot))
 }
 
-/// `continue` behind the word.
+/// `continue`.
 fn continue_statement(
     tokens: &mut Cursor<'_>,
     names: &mut TypedefNames,
@@ -214,17 +199,9 @@ fn continue_statement(
     ensures gives { Gives view_stmt (parts.continue_at spot tokens.old) result tokens.new }
     ensures after { IfOk result (λ s. names.new ≡ typedefs.after_stmt (view_stmt s) names.old) }
 {
+    tokens.skip();
     tokens.take(Punct::Semicolon)?;
     Ok(Stmt::Continue(spot))
-}
-
-/// Whether the next token begins a statement. A typedef name doesn't.
-pub fn begins_statement(tokens: &Cursor<'_>, names: &TypedefNames) -> bool {
-    match tokens.stmt_start() {
-        StmtStart::Case | StmtStart::Default => false,
-        StmtStart::Other => tokens.start() != Start::Nothing && !tokens.starts_spec(names),
-        _ => true,
-    }
 }
 
 /// A statement no deeper than `depth` (C17 6.8). The typedef names that stand behind it are taken down.
