@@ -174,7 +174,7 @@ fn statements_and_arrays(rt: HostRuntime) -> Result<(), Fail> {
 }
 
 /// `head`, then this many times `open`, then `inner`, then as many times `close`, then `tail`.
-fn nested(alloc: Global, parts: &[&'static [u8]; 5], count: u32) -> Result<Vec<u8>, Memory> {
+fn nested_text(alloc: Global, parts: &[&'static [u8]; 5], count: u32) -> Result<Vec<u8>, Memory> {
     let mut text = parts[0].to_vec(alloc)?;
     for _ in 0..count {
         text.extend_from_slice(parts[1])?;
@@ -187,7 +187,7 @@ fn nested(alloc: Global, parts: &[&'static [u8]; 5], count: u32) -> Result<Vec<u
     Ok(text)
 }
 
-/// A text as [`nested`] makes it, how often the middle is nested, and what the parser says of it.
+/// A text as [`nested_text`] makes it, how often the middle is nested, and what the parser says of it.
 #[derive(Clone, Copy)]
 struct Nested {
     parts: [&'static [u8]; 5],
@@ -205,7 +205,7 @@ fn row(parts: [&'static [u8]; 5], count: u32, shown: &'static str) -> Nested {
 
 fn assert_nested(rt: &impl Abort, alloc: Global, rows: &[Nested]) -> Result<(), Fail> {
     for row in rows {
-        let bytes = nested(alloc, &row.parts, row.count)?;
+        let bytes = nested_text(alloc, &row.parts, row.count)?;
         let text = shown(alloc, bytes.as_slice())?;
         assert_eq!(rt;
             text.as_str(),
