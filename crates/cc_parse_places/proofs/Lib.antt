@@ -5,3 +5,7 @@ pub mod ForkedDeclarators
 pub mod ForkedSpecifiers
 pub mod ForkedFiles
 pub mod Refused
+pub mod Begun
+pub mod FirstOnes
+pub mod Failures
+pub mod BegunTypes
