@@ -45,6 +45,14 @@ cut_token h k s o d (t ∷ ts) r a e st x = inr (a, e, st, x)
 pub token_then : {h : Type 0} {k : TokenKind} {s : Option Spot} {o : Outline} {d : ℕ} {ts r : List Token} → h → NextKind k ts → Stands s (spot ts) → Begun o d (skip ts) r → Begun (token h k s o) d ts r
 token_then {h} {k} {s} {o} {d} {ts} {r} a e st x = record { cut = cut_token h k s o d ts r a e st x.cut }
 
+read_then : (h : Type 0) (k : TokenKind) (s : Option Spot) (o : Outline) (d : ℕ) (ts m r : List Token) → Reads (token h k s end) d ts m → Cut o d m r → Cut (token h k s o) d ts r
+read_then h k s o d [] m r a x = absurd a
+read_then h k s o d (t ∷ ts) m r a x = inr (a.0, a.1, a.2, subst (λ us. Cut o d us r) (sym a.3) x)
+
+-- a token that was read is there
+pub token_read : {h : Type 0} {k : TokenKind} {s : Option Spot} {o : Outline} {d : ℕ} {ts r : List Token} (m : List Token) → Reads (token h k s end) d ts m → Begun o d m r → Begun (token h k s o) d ts r
+token_read {h} {k} {s} {o} {d} {ts} {r} m a x = record { cut = read_then h k s o d ts m r a x.cut }
+
 next_punct : (s : Punct) (ts : List Token) → next_is s ts ≡ true → NextKind (kind.Punct s) ts
 next_punct s [] e = absurd cc
 next_punct s (t ∷ ts) e = punct_kind s t.kind e

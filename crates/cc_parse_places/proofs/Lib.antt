@@ -9,3 +9,10 @@ pub mod Begun
 pub mod FirstOnes
 pub mod Failures
 pub mod BegunTypes
+pub mod PrefixesSound
+pub mod BegunExpressions
+pub mod DeclaratorsSound
+pub mod BegunDeclarators
+pub mod SpecifiersSound
+pub mod ListsSound
+pub mod BegunSpecifiers
