@@ -53,11 +53,11 @@ read_then h k s o d (t ∷ ts) m r a x = inr (a.0, a.1, a.2, subst (λ us. Cut o
 pub token_read : {h : Type 0} {k : TokenKind} {s : Option Spot} {o : Outline} {d : ℕ} {ts r : List Token} (m : List Token) → Reads (token h k s end) d ts m → Begun o d m r → Begun (token h k s o) d ts r
 token_read {h} {k} {s} {o} {d} {ts} {r} m a x = record { cut = read_then h k s o d ts m r a x.cut }
 
-next_punct : (s : Punct) (ts : List Token) → next_is s ts ≡ true → NextKind (kind.Punct s) ts
+pub next_punct : (s : Punct) (ts : List Token) → next_is s ts ≡ true → NextKind (kind.Punct s) ts
 next_punct s [] e = absurd cc
 next_punct s (t ∷ ts) e = punct_kind s t.kind e
 
-next_keyword : (w : Keyword) (ts : List Token) → next_is_key w ts ≡ true → NextKind (kind.Keyword w) ts
+pub next_keyword : (w : Keyword) (ts : List Token) → next_is_key w ts ≡ true → NextKind (kind.Keyword w) ts
 next_keyword w [] e = absurd cc
 next_keyword w (t ∷ ts) e = keyword_kind w t.kind e
 
@@ -94,3 +94,21 @@ pub part_of : {c : Bool} {h : Type 0} {i o : Outline} {d : ℕ} {ts r : List Tok
 part_of a (inl e) = at e
 part_of a (inr x) = part_in a x
 
+
+-- ---- One outline behind another
+
+infixr 5 ◌⊕◌
+abbrev pub ◌⊕◌ : Outline → Outline → Outline
+end ⊕ j = j
+token h k s o ⊕ j = token h k s (o ⊕ j)
+part c h i o ⊕ j = part c h i (o ⊕ j)
+
+cut_behind : (o j : Outline) (d : ℕ) (ts m r : List Token) → Reads o d ts m → Cut j d m r → Cut (o ⊕ j) d ts r
+cut_behind end j d ts m r a x = subst (λ us. Cut j d us r) (sym a) x
+cut_behind (token h k s o) j d [] m r a x = absurd a
+cut_behind (token h k s o) j d (t ∷ ts) m r a x = inr (a.0, a.1, a.2, cut_behind o j d ts m r a.3 x)
+cut_behind (part c h i o) j d ts m r a x = inr (inr (a.0, a.1, a.2, cut_behind o j d a.0 m r a.3 x))
+
+-- what was read is there
+pub read_past : {j : Outline} {d : ℕ} {ts r : List Token} (o : Outline) (m : List Token) → Reads o d ts m → Begun j d m r → Begun (o ⊕ j) d ts r
+read_past {j} {d} {ts} {r} o m a x = record { cut = cut_behind o j d ts m r a x.cut }

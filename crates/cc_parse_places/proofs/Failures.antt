@@ -55,3 +55,20 @@ id_err {r} names ts e = by (next_ident ts) e
     by : (x : Option Name) → id_by names x ts ≡ Err r → ts ≡ r
     by None f = err_is f
     by (Some x) f = branch_err (is_type names x) refuse (skipping (pure x)) ts f (λ h g. err_is g) (λ h g. absurd cc)
+
+-- a token that was taken, where all went well
+pub take_bind_ok : {A : Type 0} (s : Punct) (ts : List Token) (f : Unit {0} → Parser A) (y : A × List Token) → and_then (take s ts) f ≡ Ok y → (next_is s ts ≡ true) × (f tt (skip ts) ≡ Ok y)
+take_bind_ok s [] f y e = absurd cc
+take_bind_ok s (t ∷ ts) f y e = by (is_punct s t.kind) refl
+  where
+    by : (c : Bool) → is_punct s t.kind ≡ c → (is_punct s t.kind ≡ true) × (f tt ts ≡ Ok y)
+    by true h = (h, let got : take s (t ∷ ts) ≡ Ok (tt, ts) = rw h refl in sym (ap (λ o. and_then o f) got) ∙ e)
+    by false h = absurd (let got : take s (t ∷ ts) ≡ Err (t ∷ ts) = rw h refl in let no : and_then (take s (t ∷ ts)) f ≡ Err (t ∷ ts) = ap (λ o. and_then o f) got in cc)
+
+pub take_key_bind_ok : {A : Type 0} (w : Keyword) (ts : List Token) (f : Unit {0} → Parser A) (y : A × List Token) → and_then (take_key w ts) f ≡ Ok y → (next_is_key w ts ≡ true) × (f tt (skip ts) ≡ Ok y)
+take_key_bind_ok w [] f y e = absurd cc
+take_key_bind_ok w (t ∷ ts) f y e = by (is_keyword w t.kind) refl
+  where
+    by : (c : Bool) → is_keyword w t.kind ≡ c → (is_keyword w t.kind ≡ true) × (f tt ts ≡ Ok y)
+    by true h = (h, let got : take_key w (t ∷ ts) ≡ Ok (tt, ts) = rw h refl in sym (ap (λ o. and_then o f) got) ∙ e)
+    by false h = absurd (let got : take_key w (t ∷ ts) ≡ Err (t ∷ ts) = rw h refl in let no : and_then (take_key w (t ∷ ts)) f ≡ Err (t ∷ ts) = ap (λ o. and_then o f) got in cc)

@@ -16,3 +16,5 @@ pub mod BegunDeclarators
 pub mod SpecifiersSound
 pub mod ListsSound
 pub mod BegunSpecifiers
+pub mod BegunReaders
+pub mod BegunDeclarations
