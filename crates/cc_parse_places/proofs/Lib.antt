@@ -18,3 +18,6 @@ pub mod ListsSound
 pub mod BegunSpecifiers
 pub mod BegunReaders
 pub mod BegunDeclarations
+pub mod ItemsSound
+pub mod BegunStatements
+pub mod BegunFiles
