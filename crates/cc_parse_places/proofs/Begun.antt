@@ -1,18 +1,18 @@
 -- Outlines that are begun: the tokens from some on are the first ones of an outline, which is cut off where the others begin.
 -- It is orderly as far as it is there, and no deeper there. The invariant of each reader that fails: it has begun what it reads,
 -- and it fails where that is cut off. What is missing may be anything, but of a kind that lets the whole stand where it stands.
-use Rattle.std.proofs.Common.{◌≡◌, ◌≤◌, ◌+◌, ◌-◌, refl, ℕ, zero, suc, Bool, true, false, List, [], ◌∷◌, ◌++◌, length, Option, arith, sym, ap, ◌∙◌, subst, ◌⊎◌, inl, inr, length-append}
+use Rattle.std.proofs.Common.{◌≡◌, ℕ, zero, suc, Bool, true, false, List, [], ◌∷◌, Option, sym, subst, ◌⊎◌, inl, inr}
 use Rattle.cc_tree.specs.declared.place.Spot.{Spot}
 use Rattle.cc_lex.specs.declared.token.Token.{Token}
 use Rattle.cc_lex.specs.declared.token.TokenKind.{TokenKind}
 use Rattle.cc_lex.specs.declared.token.TokenKind.TheVariants as kind
 use Rattle.cc_lex.specs.declared.keyword.Keyword.{Keyword}
 use Rattle.cc_lex.specs.declared.punct.Punct.{Punct}
-use Rattle.cc_grammar.specs.Outline.{Outline, end, token, part, Stands, Meets, Written, size, first, spell, AllHold, depth}
-use Rattle.cc_grammar.specs.Outlines.{sign, within}
+use Rattle.cc_grammar.specs.Outline.{Outline, end, token, part, Stands}
+use Rattle.cc_grammar.specs.Outlines.{within}
 use Rattle.cc_grammar.specs.Classes.{next_is, next_is_key, skip, spot}
 use Rattle.cc_parse_laws.proofs.Spans.{Inside, Reads}
-use Rattle.cc_parse_laws.proofs.Steps.{punct_kind, keyword_kind, reads_length}
+use Rattle.cc_parse_laws.proofs.Steps.{punct_kind, keyword_kind}
 use Rattle.cc_parse_laws.proofs.NextTokens.{NextKind}
 
 -- nothing of it is there; or it is cut off in its first token's or part's others; or in its first part
@@ -93,7 +93,6 @@ Part c i d ts r = (ts ≡ r) ⊎ Inside c (λ e. Begun i e ts r) d
 pub part_of : {c : Bool} {h : Type 0} {i o : Outline} {d : ℕ} {ts r : List Token} → h → Part c i d ts r → Begun (part c h i o) d ts r
 part_of a (inl e) = at e
 part_of a (inr x) = part_in a x
-
 
 -- ---- One outline behind another
 

@@ -1,7 +1,6 @@
 -- Expressions, specifiers and declarators of each depth at which reading fails are begun.
-use Rattle.std.proofs.Common.{◌≡◌, ◌<◌, refl, ℕ, zero, suc, Bool, true, false, List, [], ◌∷◌, Ok, Err, arith, inl, inr}
+use Rattle.std.proofs.Common.{ℕ, zero, suc, Bool, false, List, [], ◌∷◌, arith, inl, inr}
 use Rattle.cc_tree.specs.declared.place.Spot.{Spot}
-use Rattle.cc_lex.specs.declared.token.Token.{Token}
 use Rattle.cc_syntax.specs.Trees.{ExprTree, name, MemberTree, members, ConstantTree, constant, no_declarators, no_expr}
 use Rattle.cc_grammar.specs.Names.{Names}
 use Rattle.cc_grammar.specs.Classes.{spot}

@@ -1,5 +1,5 @@
 -- Type names, parameters and arguments at which reading fails are begun.
-use Rattle.std.proofs.Common.{◌≡◌, ◌≤◌, ◌<◌, refl, ℕ, zero, suc, Bool, true, false, List, [], ◌∷◌, length, Option, Some, None, Ok, Err, arith, sym, ap, subst, ◌⊎◌, inl, inr}
+use Rattle.std.proofs.Common.{◌≡◌, ◌≤◌, ◌<◌, refl, ℕ, zero, suc, Bool, true, false, List, [], ◌∷◌, length, None, Err, arith, subst, ◌⊎◌, inl, inr}
 use Rattle.cc_tree.specs.declared.place.Spot.{Spot}
 use Rattle.cc_lex.specs.declared.token.Token.{Token}
 use Rattle.cc_lex.specs.declared.punct.Punct.TheVariants as p
@@ -9,16 +9,16 @@ use Rattle.cc_tree.specs.Spots as spots
 use Rattle.cc_syntax.specs.Views.{gathered, gathered_types}
 use Rattle.cc_grammar.specs.Levels.{level}
 use Rattle.cc_grammar.specs.Names.{Names}
-use Rattle.cc_grammar.specs.Outline.{end, part, ◌▸◌, Outline}
+use Rattle.cc_grammar.specs.Outline.{end, part, ◌▸◌}
 use Rattle.cc_grammar.specs.Outlines as o
 use Rattle.cc_grammar.specs.Classes.{next_is, skip, spot}
-use Rattle.cc_grammar.specs.Outcomes.{Parser, and_then, take, ◌>>=◌, ◌>>◌, pure, ◌<$>◌}
+use Rattle.cc_grammar.specs.Outcomes.{Parser}
 use Rattle.cc_grammar.specs.Reading as r
 use Rattle.cc_grammar.specs.Reading.{Inner, Mode, with_name, without_name, with_or_without, separated, skipping}
 use Rattle.cc_parse_laws.proofs.Spans.{Reads}
 use Rattle.cc_parse_laws.proofs.Steps.{next_reads}
 use Rattle.cc_parse_laws.proofs.Lists.{Span, IsSound, Others, Separated, separated_sound}
-use Rattle.cc_parse_laws.proofs.Inner.{ReadsExpr, ReadsDeclarator, Suits, SoundInner}
+use Rattle.cc_parse_laws.proofs.Inner.{ReadsExpr, Suits, SoundInner}
 use Rattle.cc_parse_laws.proofs.SoundTypes.{typed_sound, typed_parameter, Typed}
 use Rattle.cc_parse_places.proofs.Begun.{Begun, Part, at, sign_then, part_in, part_past, part_of, within_in, within_past}
 use Rattle.cc_parse_places.proofs.Failures.{err_is, bind_err, map_err, branch_err, take_bind, until_err}
@@ -53,10 +53,10 @@ pub separated_by_fails : {A : Type 0} (read : Parser A) (P Q : Span A) → ((ts 
 separated_by_fails read P Q none sound fails zero ts r e = let x = none ts in (x.0 ∷ [], subst (λ us. SomeBegun P Q (x.0 ∷ []) ts us) (err_is e) (inl x.1))
 separated_by_fails read P Q none sound fails (suc turns) ts r e =
     bind_err (read ts) _ e
-      (λ f. let x = fails ts r f in (x.0 ∷ [], inl x.1))
-      (λ y ok f. branch_err (next_is p.Comma y.1) _ _ y.1 f
-        (λ c g. let s = separated_by_fails read P Q none sound fails turns (skip y.1) r (map_err _ _ g) in (y.0 ∷ s.0, inr (y.1, sound ts y ok, behind_begun P Q s.0 y.1 r c s.1)))
-        (λ c g. absurd cc))
+    (λ f. let x = fails ts r f in (x.0 ∷ [], inl x.1))
+    (λ y ok f. branch_err (next_is p.Comma y.1) _ _ y.1 f
+    (λ c g. let s = separated_by_fails read P Q none sound fails turns (skip y.1) r (map_err _ _ g) in (y.0 ∷ s.0, inr (y.1, sound ts y ok, behind_begun P Q s.0 y.1 r c s.1)))
+    (λ c g. absurd cc))
 
 pub separated_fails : {A : Type 0} (read : Parser A) (P Q : Span A) → ((ts : List Token) → (x : A) × Q x ts ts) → IsSound read P → Fails read Q → Fails (separated read) (SomeBegun P Q)
 separated_fails read P Q none sound fails ts r e = separated_by_fails read P Q none sound fails (length ts) ts r e
@@ -66,12 +66,12 @@ pub enclosed_by_fails : {A : Type 0} (read : Parser A) (P Q : Span A) → ((ts :
 enclosed_by_fails read P Q none sound fails zero ts r e = let x = none ts in ((x.0 ∷ [], false), subst (λ us. SomeBegun P Q (x.0 ∷ []) ts us) (err_is e) (inl x.1))
 enclosed_by_fails read P Q none sound fails (suc turns) ts r e =
     bind_err (read ts) _ e
-      (λ f. let x = fails ts r f in ((x.0 ∷ [], false), inl x.1))
-      (λ y ok f. branch_err (next_is p.Comma y.1) _ _ y.1 f
-        (λ c g. branch_err (next_is p.RightBrace (skip y.1)) _ _ (skip y.1) g
-          (λ b h. absurd cc)
-          (λ b h. let s = enclosed_by_fails read P Q none sound fails turns (skip y.1) r (map_err _ _ h) in ((y.0 ∷ s.0.0, false), inr (y.1, sound ts y ok, behind_begun P Q s.0.0 y.1 r c s.1))))
-        (λ c g. ((y.0 ∷ [], false), inr (y.1, sound ts y ok, until_err p.RightBrace (y.0 ∷ [], false) y.1 g))))
+    (λ f. let x = fails ts r f in ((x.0 ∷ [], false), inl x.1))
+    (λ y ok f. branch_err (next_is p.Comma y.1) _ _ y.1 f
+    (λ c g. branch_err (next_is p.RightBrace (skip y.1)) _ _ (skip y.1) g
+    (λ b h. absurd cc)
+    (λ b h. let s = enclosed_by_fails read P Q none sound fails turns (skip y.1) r (map_err _ _ h) in ((y.0 ∷ s.0.0, false), inr (y.1, sound ts y ok, behind_begun P Q s.0.0 y.1 r c s.1))))
+    (λ c g. ((y.0 ∷ [], false), inr (y.1, sound ts y ok, until_err p.RightBrace (y.0 ∷ [], false) y.1 g))))
 
 -- with its first brace, of which nothing may be there
 abbrev pub BracedBegun : {A : Type 0} → Span A → Span A → List A → List Token → List Token → Type 0
@@ -85,8 +85,8 @@ braced_begun P Q (x ∷ xs) ts r e s = inr (e, s)
 pub enclosed_fails : {A : Type 0} (read : Parser A) (P Q : Span A) → ((ts : List Token) → (x : A) × Q x ts ts) → IsSound read P → Fails read Q → Fails (r.enclosed read) (λ (xs : List A × Bool) ts m. BracedBegun P Q xs.0 ts m)
 enclosed_fails read P Q none sound fails ts r e =
     take_bind p.LeftBrace ts _ e
-      (λ h. let x = none ts in ((x.0 ∷ [], false), inl h))
-      (λ b f. let s = enclosed_by_fails read P Q none sound fails (length (skip ts)) (skip ts) r f in (s.0, braced_begun P Q s.0.0 ts r b s.1))
+    (λ h. let x = none ts in ((x.0 ∷ [], false), inl h))
+    (λ b f. let s = enclosed_by_fails read P Q none sound fails (length (skip ts)) (skip ts) r f in (s.0, braced_begun P Q s.0.0 ts r b s.1))
 
 -- as long as another begins
 abbrev pub FollowingBegun : {A : Type 0} → Span A → Span A → List A → List Token → List Token → Type 0
@@ -105,10 +105,10 @@ pub repeated_by_fails : {A : Type 0} (more : List Token → Bool) (read : Parser
 repeated_by_fails more read P Q none sound fails zero ts r e = let x = none ts in (x.0 ∷ [], subst (λ us. RepeatedBegun P Q (x.0 ∷ []) ts us) (err_is e) (inl x.1))
 repeated_by_fails more read P Q none sound fails (suc turns) ts r e =
     bind_err (read ts) _ e
-      (λ f. let x = fails ts r f in (x.0 ∷ [], inl x.1))
-      (λ y ok f. branch_err (more y.1) _ _ y.1 f
-        (λ c g. let s = repeated_by_fails more read P Q none sound fails turns y.1 r (map_err _ _ g) in (y.0 ∷ s.0, inr (y.1, sound ts y ok, following_begun P Q s.0 y.1 r s.1)))
-        (λ c g. absurd cc))
+    (λ f. let x = fails ts r f in (x.0 ∷ [], inl x.1))
+    (λ y ok f. branch_err (more y.1) _ _ y.1 f
+    (λ c g. let s = repeated_by_fails more read P Q none sound fails turns y.1 r (map_err _ _ g) in (y.0 ∷ s.0, inr (y.1, sound ts y ok, following_begun P Q s.0 y.1 r s.1)))
+    (λ c g. absurd cc))
 
 -- ---- Type names
 
@@ -134,8 +134,8 @@ module _ (names : Names) (inner : Inner) (d : ℕ) (good : SoundInner names inne
   pub typed_fails : (mode : Mode) → Fails (r.typed names inner (suc d) mode) (TypeBegun mode)
   typed_fails mode ts m e =
       bind_err (inner.specs ts) _ e
-        (λ f. let s = fails.specs ts m f in (type_name (spot ts) s.0 (missing mode), (s.1, within_in s.2)))
-        (λ y ok f. let s = good.specs ts y ok in let g = fails.declarator mode y.1 m (map_err _ _ f) in (type_name (spot ts) y.0 g.0, (s.0, within_past y.1 s.1 (part_of g.1 g.2))))
+      (λ f. let s = fails.specs ts m f in (type_name (spot ts) s.0 (missing mode), (s.1, within_in s.2)))
+      (λ y ok f. let s = good.specs ts y ok in let g = fails.declarator mode y.1 m (map_err _ _ f) in (type_name (spot ts) y.0 g.0, (s.0, within_past y.1 s.1 (part_of g.1 g.2))))
 
   pub no_type : (mode : Mode) (ts : List Token) → (x : TypeTree Spot) × TypeBegun mode x ts ts
   no_type mode ts = (type_name (spot ts) (some_spec (spot ts)) (missing mode), (refl, at refl))
@@ -171,11 +171,11 @@ module _ (names : Names) (inner : Inner) (d : ℕ) (good : SoundInner names inne
   pub parameters_fail : Fails (r.parameters names inner (suc d)) (λ us ts m. Begun (o.within (o.parameters names (gathered_types us)) ▸ o.sign p.RightParen ▸ end) d ts m)
   parameters_fail ts m e =
       branch_err (next_is p.RightParen ts) _ _ ts e (λ c f. absurd cc)
-        (λ c f. bind_err (separated (r.typed names inner (suc d) with_or_without) ts) _ f
-          (λ g. let s = separated_fails (r.typed names inner (suc d) with_or_without) (Typed names inner d good with_or_without) (TypeBegun with_or_without) (no_type with_or_without) (typed_sound names inner d good with_or_without) (typed_fails with_or_without) ts m g in
-            (s.0, within_in (some_begun s.0 ts m s.1)))
-          (λ y ok g. let s = separated_sound (r.typed names inner (suc d) with_or_without) (Typed names inner d good with_or_without) (typed_sound names inner d good with_or_without) ts y ok in
-            (y.0, within_past y.1 (some_parameters y.0 ts y.1 s) (at (until_err p.RightParen y.0 y.1 g)))))
+      (λ c f. bind_err (separated (r.typed names inner (suc d) with_or_without) ts) _ f
+      (λ g. let s = separated_fails (r.typed names inner (suc d) with_or_without) (Typed names inner d good with_or_without) (TypeBegun with_or_without) (no_type with_or_without) (typed_sound names inner d good with_or_without) (typed_fails with_or_without) ts m g in
+      (s.0, within_in (some_begun s.0 ts m s.1)))
+      (λ y ok g. let s = separated_sound (r.typed names inner (suc d) with_or_without) (Typed names inner d good with_or_without) (typed_sound names inner d good with_or_without) ts y ok in
+      (y.0, within_past y.1 (some_parameters y.0 ts y.1 s) (at (until_err p.RightParen y.0 y.1 g)))))
 
   -- ---- Arguments
 
@@ -209,8 +209,8 @@ module _ (names : Names) (inner : Inner) (d : ℕ) (good : SoundInner names inne
   pub arguments_fail : Fails (r.arguments names inner (suc d)) (λ es ts m. Begun (o.within (o.arguments names (gathered es)) ▸ o.sign p.RightParen ▸ end) d ts m)
   arguments_fail ts m e =
       branch_err (next_is p.RightParen ts) _ _ ts e (λ c f. absurd cc)
-        (λ c f. bind_err (separated (inner.expr 2) ts) _ f
-          (λ g. let s = separated_fails (inner.expr 2) Argument ArgumentBegun no_argument (good.expr 2 (omega arith)) (λ us v h. let q = fails.expr 2 (omega arith) (omega arith) us v h in (q.0, (q.1, q.2))) ts m g in
-            (s.0, within_in (arguments_begun s.0 ts m s.1)))
-          (λ y ok g. let s = separated_sound (inner.expr 2) Argument (good.expr 2 (omega arith)) ts y ok in
-            (y.0, within_past y.1 (some_arguments y.0 ts y.1 s) (at (until_err p.RightParen y.0 y.1 g)))))
+      (λ c f. bind_err (separated (inner.expr 2) ts) _ f
+      (λ g. let s = separated_fails (inner.expr 2) Argument ArgumentBegun no_argument (good.expr 2 (omega arith)) (λ us v h. let q = fails.expr 2 (omega arith) (omega arith) us v h in (q.0, (q.1, q.2))) ts m g in
+      (s.0, within_in (arguments_begun s.0 ts m s.1)))
+      (λ y ok g. let s = separated_sound (inner.expr 2) Argument (good.expr 2 (omega arith)) ts y ok in
+      (y.0, within_past y.1 (some_arguments y.0 ts y.1 s) (at (until_err p.RightParen y.0 y.1 g)))))

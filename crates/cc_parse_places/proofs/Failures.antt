@@ -1,12 +1,12 @@
 -- Steps that failed: which of them did, and where.
-use Rattle.std.proofs.Common.{◌≡◌, refl, ℕ, suc, Bool, true, false, List, [], ◌∷◌, Option, Some, None, Ok, Err, sym, ap, ◌∙◌}
+use Rattle.std.proofs.Common.{◌≡◌, refl, Bool, true, false, List, [], ◌∷◌, Option, Some, None, Ok, Err, sym, ap, ◌∙◌}
 use Rattle.cc_lex.specs.declared.token.Token.{Token}
 use Rattle.cc_lex.specs.declared.keyword.Keyword.{Keyword}
 use Rattle.cc_lex.specs.declared.punct.Punct.{Punct}
 use Rattle.cc_syntax.specs.Trees.{Name}
 use Rattle.cc_grammar.specs.Names.{Names, is_type}
 use Rattle.cc_grammar.specs.Classes.{is_punct, is_keyword, next_is, next_is_key, next_ident, skip}
-use Rattle.cc_grammar.specs.Outcomes.{Outcome, Parser, and_then, pure, refuse, take, take_key, ◌<$>◌, ◌>>◌}
+use Rattle.cc_grammar.specs.Outcomes.{Outcome, Parser, and_then, pure, refuse, take, take_key}
 use Rattle.cc_grammar.specs.Reading.{branch, skipping, id, id_by}
 
 abbrev failed : {A : Type 0} → List Token → Outcome A

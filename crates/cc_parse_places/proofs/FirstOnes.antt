@@ -1,5 +1,5 @@
 -- What is begun is read as the first tokens of its outline, and so tokens up to a fault are the spelling of a cut-off tree.
-use Rattle.std.proofs.Common.{◌≡◌, ◌≤◌, ◌+◌, ◌-◌, refl, ℕ, zero, suc, Bool, true, false, List, [], ◌∷◌, ◌++◌, length, take, None, Option, arith, sym, ap, ◌∙◌, subst, inl, inr, length-append, append_assoc}
+use Rattle.std.proofs.Common.{◌≡◌, ◌≤◌, ◌+◌, ◌-◌, refl, ℕ, zero, suc, Bool, true, false, List, [], ◌∷◌, ◌++◌, length, take, None, arith, sym, ap, ◌∙◌, subst, inl, inr, length-append, append_assoc}
 use Rattle.std.proofs.Math.Seq.{take-append_seam}
 use Rattle.cc_tree.specs.declared.place.Spot.{Spot}
 use Rattle.cc_lex.specs.declared.token.Token.{Token}
@@ -8,7 +8,7 @@ use Rattle.cc_grammar.specs.Outline.{Outline, end, token, part, Meets, Written, 
 use Rattle.cc_grammar.specs.Outlines as o
 use Rattle.cc_parse_laws.proofs.Spans.{Inside, Reads, reads_hold, reads_depth, reads_spell}
 use Rattle.cc_parse_laws.proofs.Steps.{reads_length}
-use Rattle.cc_parse_places.proofs.Forks.{Ending, whole, ending_of}
+use Rattle.cc_parse_places.proofs.Forks.{Ending, ending_of}
 use Rattle.cc_parse_places.proofs.Begun.{Cut, Begun}
 
 inside_holds : (c : Bool) (P : ℕ → Type 0) (Q : Type 0) → ((e : ℕ) → P e → Q) → (d : ℕ) → Inside c P d → Q

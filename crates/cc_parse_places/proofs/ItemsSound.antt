@@ -1,5 +1,5 @@
 -- What is read as an item of a block is there.
-use Rattle.std.proofs.Common.{◌≡◌, refl, ℕ, zero, suc, Bool, true, false, List, Some, Ok, arith, sym, ap, subst, inl, inr}
+use Rattle.std.proofs.Common.{◌≡◌, refl, ℕ, zero, suc, true, List, Some, Ok, arith, subst, inl, inr}
 use Rattle.cc_tree.specs.declared.place.Spot.{Spot}
 use Rattle.cc_lex.specs.declared.token.Token.{Token}
 use Rattle.cc_lex.specs.declared.keyword.Keyword.TheVariants as k
@@ -11,7 +11,6 @@ use Rattle.cc_grammar.specs.Names.{Names}
 use Rattle.cc_grammar.specs.Classes.{next_is_key, skip, spot, starts_spec, StmtStart, begins_case, begins_default, stmt_start}
 use Rattle.cc_grammar.specs.Outcomes.{Parser, and_then, ◌>>=◌, ◌>>◌, pure, ◌<$>◌, take}
 use Rattle.cc_grammar.specs.Reading.{skipping, readers, declaration_at, counted_by, label_by, item}
-use Rattle.cc_parse_laws.proofs.Spans.{Reads}
 use Rattle.cc_parse_laws.proofs.Steps.{map_ok, branched, next_key_reads}
 use Rattle.cc_parse_laws.proofs.Lists.{IsSound}
 use Rattle.cc_parse_laws.proofs.Begins.{Opens, opens}
