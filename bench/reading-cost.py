@@ -143,7 +143,7 @@ def built(folder):
         (crate / "stdin").write_text("")
         (crate / "stdout").write_text("")
         with open(copy / "crates.txt", "a") as crates:
-            crates.write("reading_cost: cc_lex cc_parse cc_syntax cc_tree\n")
+            crates.write("reading_cost: cc_lex cc_parse cc_tree cc_base\n")
     subprocess.run(["rt", "run"], cwd=copy / "crates" / "reading_cost", check=True, stdout=subprocess.DEVNULL)
     return copy / "crates" / "reading_cost" / "out" / "reading_cost"
 

@@ -1,12 +1,12 @@
 -- On the texts that are files, what is read is spelled as it was written, with the spots, and is as deep as the walk says.
 use Rattle.std.proofs.Common.{◌≡◌, refl, ℕ, Bool, true, false, ◌&&◌, ◌==◌, List, [], ◌∷◌, map, Option, Some, None, is_some, Ok, Err, codes, if◌then◌else◌}
-use Rattle.cc_tree.specs.declared.place.Spot.{Spot}
+use Rattle.cc_base.specs.declared.place.Spot.{Spot}
 use Rattle.cc_lex.specs.declared.token.Token.{Token}
 use Rattle.cc_lex.specs.declared.token.TokenKind.{TokenKind}
 use Rattle.cc_lex.specs.Meanings.{meaning, word}
 use Rattle.cc_lex.specs.Spellings.{keywords, puncts}
-use Rattle.cc_syntax.specs.Trees.{ExternalTree}
-use Rattle.cc_syntax.specs.Depth.{file_depth}
+use Rattle.cc_tree.specs.Trees.{ExternalTree}
+use Rattle.cc_tree.specs.Depth.{file_depth}
 use Rattle.cc_grammar.specs.Outcomes.{Outcome}
 use Rattle.cc_grammar.specs.Outline.{Written, spell, depth}
 use Rattle.cc_grammar.specs.Outlines.{file}

@@ -1,9 +1,9 @@
 -- Texts as examples: words with one space between, each a token. A token's column is its number.
 use Rattle.std.proofs.Common.{ℕ, suc, ◌+◌, ◌-◌, ◌==◌, List, [], ◌∷◌, length, Option, Some, None, Ok, Err, if◌then◌else◌}
-use Rattle.cc_tree.specs.declared.place.Spot.{Spot}
+use Rattle.cc_base.specs.declared.place.Spot.{Spot}
 use Rattle.cc_lex.specs.declared.token.Token.{Token}
 use Rattle.cc_lex.specs.Meanings.{meaning}
-use Rattle.cc_syntax.specs.Trees.{ExprTree, DeclTree, StmtTree, ExternalTree}
+use Rattle.cc_tree.specs.Trees.{ExprTree, DeclTree, StmtTree, ExternalTree}
 use Rattle.cc_grammar.specs.Outcomes.{Outcome}
 use Rattle.cc_grammar.specs.Names.{Names}
 use Rattle.cc_grammar.specs.Reading.{reading, readers, stmt, with_or_without}

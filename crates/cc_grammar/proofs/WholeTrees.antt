@@ -1,8 +1,8 @@
 -- A whole tree is a cut-off one.
 use Rattle.std.proofs.Common.{◌≡◌, ◌≤◌, refl, ℕ, zero, suc, ◌-◌, max, Bool, true, false, List, [], ◌∷◌, arith, ap, ◌∙◌, subst, sym}
 use Rattle.cc_lex.specs.declared.token.Token.{Token}
-use Rattle.cc_syntax.specs.Trees.{ExternalTree}
-use Rattle.cc_tree.specs.declared.place.Spot.{Spot}
+use Rattle.cc_tree.specs.Trees.{ExternalTree}
+use Rattle.cc_base.specs.declared.place.Spot.{Spot}
 use Rattle.cc_grammar.specs.Outline.{Outline, end, token, part, Written, AllHold, depth, deeper, size, first, spell, Meets}
 use Rattle.cc_grammar.specs.Outlines.{file, limit, WellFormed, CutOff}
 

@@ -3,29 +3,29 @@ use Rattle.std.specs.Prelude.{ℕ, ℤ, Bool, true, false, List, [], ◌∷◌, 
 use denote.Enum.Bare.{sameb}
 use Rattle.cc_arith.specs.declared.kind.IntKind.{IntKind}
 use Rattle.cc_arith.specs.declared.binary_operator.IntOp.TheVariants as int
-use Rattle.cc_arith.specs.declared.unary_operator.IntUnary.TheVariants as sign
-use Rattle.cc_tree.specs.declared.place.Spot.{Spot}
-use Rattle.cc_tree.specs.Spots as spots
+use Rattle.cc_arith.specs.declared.unary_operator.IntUnary.TheVariants as int_unary
+use Rattle.cc_base.specs.declared.place.Spot.{Spot}
+use Rattle.cc_base.specs.Spots as spots
 use Rattle.cc_lex.specs.declared.token.Token.{Token}
 use Rattle.cc_lex.specs.declared.token.TokenKind.{TokenKind}
 use Rattle.cc_lex.specs.declared.token.TokenKind.TheVariants as kind
 use Rattle.cc_lex.specs.declared.keyword.Keyword.{Keyword}
-use Rattle.cc_lex.specs.declared.keyword.Keyword.TheVariants as k
+use Rattle.cc_lex.specs.declared.keyword.Keyword.TheVariants as the_keyword
 use Rattle.cc_lex.specs.contracts.keyword.Keyword as keywords
 use Rattle.cc_lex.specs.declared.punct.Punct.{Punct}
-use Rattle.cc_lex.specs.declared.punct.Punct.TheVariants as p
+use Rattle.cc_lex.specs.declared.punct.Punct.TheVariants as the_punct
 use Rattle.cc_lex.specs.contracts.punct.Punct as puncts
-use Rattle.cc_syntax.specs.Trees.{Name}
-use Rattle.cc_syntax.specs.declared.operator.UnaryOp.{UnaryOp}
-use Rattle.cc_syntax.specs.declared.operator.UnaryOp.TheVariants as u
-use Rattle.cc_syntax.specs.declared.operator.BinaryOp.{BinaryOp}
-use Rattle.cc_syntax.specs.declared.operator.BinaryOp.TheVariants as b
-use Rattle.cc_syntax.specs.declared.operator.AssignOp.{AssignOp}
-use Rattle.cc_syntax.specs.declared.operator.AssignOp.TheVariants as a
-use Rattle.cc_syntax.specs.declared.operator.StepOp.{StepOp}
-use Rattle.cc_syntax.specs.declared.operator.StepOp.TheVariants as s
-use Rattle.cc_syntax.specs.declared.operator.SpecWord.{SpecWord}
-use Rattle.cc_syntax.specs.declared.operator.SpecWord.TheVariants as w
+use Rattle.cc_tree.specs.Trees.{Name}
+use Rattle.cc_tree.specs.declared.operator.UnaryOp.{UnaryOp}
+use Rattle.cc_tree.specs.declared.operator.UnaryOp.TheVariants as the_unary
+use Rattle.cc_tree.specs.declared.operator.BinaryOp.{BinaryOp}
+use Rattle.cc_tree.specs.declared.operator.BinaryOp.TheVariants as the_binary
+use Rattle.cc_tree.specs.declared.operator.AssignOp.{AssignOp}
+use Rattle.cc_tree.specs.declared.operator.AssignOp.TheVariants as the_assign
+use Rattle.cc_tree.specs.declared.operator.StepOp.{StepOp}
+use Rattle.cc_tree.specs.declared.operator.StepOp.TheVariants as the_step
+use Rattle.cc_tree.specs.declared.operator.SpecWord.{SpecWord}
+use Rattle.cc_tree.specs.declared.operator.SpecWord.TheVariants as the_spec_word
 use Rattle.cc_grammar.specs.Levels.{binary_level}
 use Rattle.cc_grammar.specs.Names.{Names, is_type}
 
@@ -57,9 +57,9 @@ abbrev pub next_is : Punct → List Token → Bool
 next_is s [] = false
 next_is s (t ∷ ts) = is_punct s t.kind
 
-abbrev pub next_is_key : Keyword → List Token → Bool
-next_is_key w [] = false
-next_is_key w (t ∷ ts) = is_keyword w t.kind
+abbrev pub next_is_keyword : Keyword → List Token → Bool
+next_is_keyword w [] = false
+next_is_keyword w (t ∷ ts) = is_keyword w t.kind
 
 abbrev pub skip : List Token → List Token
 skip [] = []
@@ -108,29 +108,29 @@ pub data Start : Type 0 where
   begins_sizeof : Start
   begins_nothing : Start
 
-abbrev pub start_sign : Punct → Start
-start_sign p.LeftParen = begins_paren
-start_sign p.And = begins_unary u.Address
-start_sign p.Star = begins_unary u.Deref
-start_sign p.Plus = begins_unary (u.Int sign.Plus)
-start_sign p.Minus = begins_unary (u.Int sign.Minus)
-start_sign p.Tilde = begins_unary (u.Int sign.Invert)
-start_sign p.Not = begins_unary (u.Int sign.Not)
-start_sign p.PlusPlus = begins_step s.Increment
-start_sign p.MinusMinus = begins_step s.Decrement
-start_sign _ = begins_nothing
+abbrev pub start_punct : Punct → Start
+start_punct the_punct.LeftParen = begins_paren
+start_punct the_punct.And = begins_unary the_unary.Address
+start_punct the_punct.Star = begins_unary the_unary.Deref
+start_punct the_punct.Plus = begins_unary (the_unary.Int int_unary.Plus)
+start_punct the_punct.Minus = begins_unary (the_unary.Int int_unary.Minus)
+start_punct the_punct.Tilde = begins_unary (the_unary.Int int_unary.Invert)
+start_punct the_punct.Not = begins_unary (the_unary.Int int_unary.Not)
+start_punct the_punct.PlusPlus = begins_step the_step.Increment
+start_punct the_punct.MinusMinus = begins_step the_step.Decrement
+start_punct _ = begins_nothing
 
-abbrev pub start_key : Keyword → Start
-start_key k.Sizeof = begins_sizeof
-start_key _ = begins_nothing
+abbrev pub start_keyword : Keyword → Start
+start_keyword the_keyword.Sizeof = begins_sizeof
+start_keyword _ = begins_nothing
 
 abbrev pub start_kind : TokenKind → Start
 start_kind (kind.Identifier x) = begins_name x
 start_kind (kind.Integer v c) = begins_integer v c
 start_kind (kind.Character v) = begins_character v
 start_kind (kind.Str bytes) = begins_string bytes
-start_kind (kind.Punct t) = start_sign t
-start_kind (kind.Keyword w) = start_key w
+start_kind (kind.Punct t) = start_punct t
+start_kind (kind.Keyword w) = start_keyword w
 
 abbrev pub start : List Token → Start
 start [] = begins_nothing
@@ -150,48 +150,48 @@ pub data Tail : Type 0 where
   goes_step : StepOp → Tail
   ends_here : Tail
 
-abbrev pub tail_sign : Punct → Tail
-tail_sign p.OrOr = goes_binary b.OrOr
-tail_sign p.AndAnd = goes_binary b.AndAnd
-tail_sign p.Or = goes_binary (b.Int int.Or)
-tail_sign p.Caret = goes_binary (b.Int int.Xor)
-tail_sign p.And = goes_binary (b.Int int.And)
-tail_sign p.EqualEqual = goes_binary (b.Int int.Eq)
-tail_sign p.NotEqual = goes_binary (b.Int int.Ne)
-tail_sign p.Less = goes_binary (b.Int int.Lt)
-tail_sign p.LessEqual = goes_binary (b.Int int.Le)
-tail_sign p.Greater = goes_binary (b.Int int.Gt)
-tail_sign p.GreaterEqual = goes_binary (b.Int int.Ge)
-tail_sign p.ShiftLeft = goes_binary (b.Int int.Shl)
-tail_sign p.ShiftRight = goes_binary (b.Int int.Shr)
-tail_sign p.Plus = goes_binary (b.Int int.Add)
-tail_sign p.Minus = goes_binary (b.Int int.Sub)
-tail_sign p.Star = goes_binary (b.Int int.Mul)
-tail_sign p.Slash = goes_binary (b.Int int.Div)
-tail_sign p.Percent = goes_binary (b.Int int.Rem)
-tail_sign p.Equal = goes_assign a.Plain
-tail_sign p.StarEqual = goes_assign a.Mul
-tail_sign p.SlashEqual = goes_assign a.Div
-tail_sign p.PercentEqual = goes_assign a.Rem
-tail_sign p.PlusEqual = goes_assign a.Add
-tail_sign p.MinusEqual = goes_assign a.Sub
-tail_sign p.ShiftLeftEqual = goes_assign a.Shl
-tail_sign p.ShiftRightEqual = goes_assign a.Shr
-tail_sign p.AndEqual = goes_assign a.And
-tail_sign p.CaretEqual = goes_assign a.Xor
-tail_sign p.OrEqual = goes_assign a.Or
-tail_sign p.Question = goes_question
-tail_sign p.Comma = goes_comma
-tail_sign p.LeftParen = goes_call
-tail_sign p.LeftBracket = goes_index
-tail_sign p.Dot = goes_dot
-tail_sign p.Arrow = goes_arrow
-tail_sign p.PlusPlus = goes_step s.Increment
-tail_sign p.MinusMinus = goes_step s.Decrement
-tail_sign _ = ends_here
+abbrev pub tail_punct : Punct → Tail
+tail_punct the_punct.OrOr = goes_binary the_binary.OrOr
+tail_punct the_punct.AndAnd = goes_binary the_binary.AndAnd
+tail_punct the_punct.Or = goes_binary (the_binary.Int int.Or)
+tail_punct the_punct.Caret = goes_binary (the_binary.Int int.Xor)
+tail_punct the_punct.And = goes_binary (the_binary.Int int.And)
+tail_punct the_punct.EqualEqual = goes_binary (the_binary.Int int.Eq)
+tail_punct the_punct.NotEqual = goes_binary (the_binary.Int int.Ne)
+tail_punct the_punct.Less = goes_binary (the_binary.Int int.Lt)
+tail_punct the_punct.LessEqual = goes_binary (the_binary.Int int.Le)
+tail_punct the_punct.Greater = goes_binary (the_binary.Int int.Gt)
+tail_punct the_punct.GreaterEqual = goes_binary (the_binary.Int int.Ge)
+tail_punct the_punct.ShiftLeft = goes_binary (the_binary.Int int.Shl)
+tail_punct the_punct.ShiftRight = goes_binary (the_binary.Int int.Shr)
+tail_punct the_punct.Plus = goes_binary (the_binary.Int int.Add)
+tail_punct the_punct.Minus = goes_binary (the_binary.Int int.Sub)
+tail_punct the_punct.Star = goes_binary (the_binary.Int int.Mul)
+tail_punct the_punct.Slash = goes_binary (the_binary.Int int.Div)
+tail_punct the_punct.Percent = goes_binary (the_binary.Int int.Rem)
+tail_punct the_punct.Equal = goes_assign the_assign.Plain
+tail_punct the_punct.StarEqual = goes_assign the_assign.Mul
+tail_punct the_punct.SlashEqual = goes_assign the_assign.Div
+tail_punct the_punct.PercentEqual = goes_assign the_assign.Rem
+tail_punct the_punct.PlusEqual = goes_assign the_assign.Add
+tail_punct the_punct.MinusEqual = goes_assign the_assign.Sub
+tail_punct the_punct.ShiftLeftEqual = goes_assign the_assign.Shl
+tail_punct the_punct.ShiftRightEqual = goes_assign the_assign.Shr
+tail_punct the_punct.AndEqual = goes_assign the_assign.And
+tail_punct the_punct.CaretEqual = goes_assign the_assign.Xor
+tail_punct the_punct.OrEqual = goes_assign the_assign.Or
+tail_punct the_punct.Question = goes_question
+tail_punct the_punct.Comma = goes_comma
+tail_punct the_punct.LeftParen = goes_call
+tail_punct the_punct.LeftBracket = goes_index
+tail_punct the_punct.Dot = goes_dot
+tail_punct the_punct.Arrow = goes_arrow
+tail_punct the_punct.PlusPlus = goes_step the_step.Increment
+tail_punct the_punct.MinusMinus = goes_step the_step.Decrement
+tail_punct _ = ends_here
 
 abbrev pub tail_kind : TokenKind → Tail
-tail_kind (kind.Punct t) = tail_sign t
+tail_kind (kind.Punct t) = tail_punct t
 tail_kind (kind.Keyword w) = ends_here
 tail_kind (kind.Identifier x) = ends_here
 tail_kind (kind.Integer v c) = ends_here
@@ -237,26 +237,26 @@ pub data SpecStart : Type 0 where
   spec_named : Name → SpecStart
   no_spec : SpecStart
 
-abbrev pub spec_key : Keyword → SpecStart
-spec_key k.Typedef = spec_word w.Typedef
-spec_key k.Extern = spec_word w.Extern
-spec_key k.Static = spec_word w.Static
-spec_key k.Inline = spec_word w.Inline
-spec_key k.Const = spec_word w.Const
-spec_key k.Void = spec_word w.Void
-spec_key k.Char = spec_word w.Char
-spec_key k.Short = spec_word w.Short
-spec_key k.Int = spec_word w.Int
-spec_key k.Long = spec_word w.Long
-spec_key k.Signed = spec_word w.Signed
-spec_key k.Unsigned = spec_word w.Unsigned
-spec_key k.Bool = spec_word w.Bool
-spec_key k.Struct = spec_struct
-spec_key k.Enum = spec_enum
-spec_key _ = no_spec
+abbrev pub spec_keyword : Keyword → SpecStart
+spec_keyword the_keyword.Typedef = spec_word the_spec_word.Typedef
+spec_keyword the_keyword.Extern = spec_word the_spec_word.Extern
+spec_keyword the_keyword.Static = spec_word the_spec_word.Static
+spec_keyword the_keyword.Inline = spec_word the_spec_word.Inline
+spec_keyword the_keyword.Const = spec_word the_spec_word.Const
+spec_keyword the_keyword.Void = spec_word the_spec_word.Void
+spec_keyword the_keyword.Char = spec_word the_spec_word.Char
+spec_keyword the_keyword.Short = spec_word the_spec_word.Short
+spec_keyword the_keyword.Int = spec_word the_spec_word.Int
+spec_keyword the_keyword.Long = spec_word the_spec_word.Long
+spec_keyword the_keyword.Signed = spec_word the_spec_word.Signed
+spec_keyword the_keyword.Unsigned = spec_word the_spec_word.Unsigned
+spec_keyword the_keyword.Bool = spec_word the_spec_word.Bool
+spec_keyword the_keyword.Struct = spec_struct
+spec_keyword the_keyword.Enum = spec_enum
+spec_keyword _ = no_spec
 
 abbrev pub spec_kind : Names → TokenKind → SpecStart
-spec_kind names (kind.Keyword w) = spec_key w
+spec_kind names (kind.Keyword w) = spec_keyword w
 spec_kind names (kind.Identifier x) = if is_type names x then spec_named x else no_spec
 spec_kind names (kind.Punct t) = no_spec
 spec_kind names (kind.Integer v c) = no_spec
@@ -294,27 +294,27 @@ pub data StmtStart : Type 0 where
   begins_default : StmtStart
   begins_other : StmtStart
 
-abbrev pub stmt_key : Keyword → StmtStart
-stmt_key k.If = begins_if
-stmt_key k.Switch = begins_switch
-stmt_key k.While = begins_while
-stmt_key k.Do = begins_do
-stmt_key k.For = begins_for
-stmt_key k.Break = begins_break
-stmt_key k.Continue = begins_continue
-stmt_key k.Return = begins_return
-stmt_key k.Case = begins_case
-stmt_key k.Default = begins_default
-stmt_key _ = begins_other
+abbrev pub stmt_keyword : Keyword → StmtStart
+stmt_keyword the_keyword.If = begins_if
+stmt_keyword the_keyword.Switch = begins_switch
+stmt_keyword the_keyword.While = begins_while
+stmt_keyword the_keyword.Do = begins_do
+stmt_keyword the_keyword.For = begins_for
+stmt_keyword the_keyword.Break = begins_break
+stmt_keyword the_keyword.Continue = begins_continue
+stmt_keyword the_keyword.Return = begins_return
+stmt_keyword the_keyword.Case = begins_case
+stmt_keyword the_keyword.Default = begins_default
+stmt_keyword _ = begins_other
 
-abbrev pub stmt_sign : Punct → StmtStart
-stmt_sign p.LeftBrace = begins_block
-stmt_sign p.Semicolon = begins_empty
-stmt_sign _ = begins_other
+abbrev pub stmt_punct : Punct → StmtStart
+stmt_punct the_punct.LeftBrace = begins_block
+stmt_punct the_punct.Semicolon = begins_empty
+stmt_punct _ = begins_other
 
 abbrev pub stmt_kind : TokenKind → StmtStart
-stmt_kind (kind.Keyword w) = stmt_key w
-stmt_kind (kind.Punct t) = stmt_sign t
+stmt_kind (kind.Keyword w) = stmt_keyword w
+stmt_kind (kind.Punct t) = stmt_punct t
 stmt_kind (kind.Identifier x) = begins_other
 stmt_kind (kind.Integer v c) = begins_other
 stmt_kind (kind.Character v) = begins_other

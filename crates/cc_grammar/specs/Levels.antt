@@ -2,23 +2,23 @@
 use Rattle.std.specs.Prelude.{ℕ}
 use Rattle.cc_arith.specs.declared.binary_operator.IntOp.{IntOp}
 use Rattle.cc_arith.specs.declared.binary_operator.IntOp.TheVariants as int
-use Rattle.cc_arith.specs.declared.unary_operator.IntUnary.TheVariants as sign
+use Rattle.cc_arith.specs.declared.unary_operator.IntUnary.TheVariants as int_unary
 use Rattle.cc_lex.specs.declared.keyword.Keyword.{Keyword}
-use Rattle.cc_lex.specs.declared.keyword.Keyword.TheVariants as k
+use Rattle.cc_lex.specs.declared.keyword.Keyword.TheVariants as the_keyword
 use Rattle.cc_lex.specs.declared.punct.Punct.{Punct}
-use Rattle.cc_lex.specs.declared.punct.Punct.TheVariants as p
-use Rattle.cc_syntax.specs.Trees.{ExprTree, name, integer, character, string, paren, unary, binary, assign, step, choice, comma, call, member, arrow, index, cast, size_expr, size_type}
-use Rattle.cc_syntax.specs.declared.operator.UnaryOp.{UnaryOp}
-use Rattle.cc_syntax.specs.declared.operator.UnaryOp.TheVariants as u
-use Rattle.cc_syntax.specs.declared.operator.BinaryOp.{BinaryOp}
-use Rattle.cc_syntax.specs.declared.operator.BinaryOp.TheVariants as b
-use Rattle.cc_syntax.specs.declared.operator.AssignOp.{AssignOp}
-use Rattle.cc_syntax.specs.declared.operator.AssignOp.TheVariants as a
-use Rattle.cc_syntax.specs.declared.operator.StepOp.{StepOp}
-use Rattle.cc_syntax.specs.declared.operator.StepOp.TheVariants as s
-use Rattle.cc_syntax.specs.declared.operator.Side.TheVariants as side
-use Rattle.cc_syntax.specs.declared.operator.SpecWord.{SpecWord}
-use Rattle.cc_syntax.specs.declared.operator.SpecWord.TheVariants as w
+use Rattle.cc_lex.specs.declared.punct.Punct.TheVariants as the_punct
+use Rattle.cc_tree.specs.Trees.{ExprTree, name, integer, character, string, paren, unary, binary, assign, step, choice, comma, call, member, arrow, index, cast, size_expr, size_type}
+use Rattle.cc_tree.specs.declared.operator.UnaryOp.{UnaryOp}
+use Rattle.cc_tree.specs.declared.operator.UnaryOp.TheVariants as the_unary
+use Rattle.cc_tree.specs.declared.operator.BinaryOp.{BinaryOp}
+use Rattle.cc_tree.specs.declared.operator.BinaryOp.TheVariants as the_binary
+use Rattle.cc_tree.specs.declared.operator.AssignOp.{AssignOp}
+use Rattle.cc_tree.specs.declared.operator.AssignOp.TheVariants as the_assign
+use Rattle.cc_tree.specs.declared.operator.StepOp.{StepOp}
+use Rattle.cc_tree.specs.declared.operator.StepOp.TheVariants as the_step
+use Rattle.cc_tree.specs.declared.operator.Side.TheVariants as side
+use Rattle.cc_tree.specs.declared.operator.SpecWord.{SpecWord}
+use Rattle.cc_tree.specs.declared.operator.SpecWord.TheVariants as the_spec_word
 
 -- C17 6.5.5 to 6.5.14, from the loosest
 abbrev pub int_level : IntOp → ℕ
@@ -40,9 +40,9 @@ int_level int.Div = 13
 int_level int.Rem = 13
 
 abbrev pub binary_level : BinaryOp → ℕ
-binary_level b.OrOr = 4
-binary_level b.AndAnd = 5
-binary_level (b.Int op) = int_level op
+binary_level the_binary.OrOr = 4
+binary_level the_binary.AndAnd = 5
+binary_level (the_binary.Int op) = int_level op
 
 -- 1 a comma expression, 2 an assignment, 3 a conditional, 4 to 13 a binary one, 14 a cast, 15 a prefix form, 16 a postfix
 -- form or a primary
@@ -69,65 +69,65 @@ level (size_type n t) = 15
 
 -- ---- Tokens
 
-abbrev pub unary_sign : UnaryOp → Punct
-unary_sign u.Address = p.And
-unary_sign u.Deref = p.Star
-unary_sign (u.Int sign.Plus) = p.Plus
-unary_sign (u.Int sign.Minus) = p.Minus
-unary_sign (u.Int sign.Invert) = p.Tilde
-unary_sign (u.Int sign.Not) = p.Not
+abbrev pub unary_punct : UnaryOp → Punct
+unary_punct the_unary.Address = the_punct.And
+unary_punct the_unary.Deref = the_punct.Star
+unary_punct (the_unary.Int int_unary.Plus) = the_punct.Plus
+unary_punct (the_unary.Int int_unary.Minus) = the_punct.Minus
+unary_punct (the_unary.Int int_unary.Invert) = the_punct.Tilde
+unary_punct (the_unary.Int int_unary.Not) = the_punct.Not
 
-abbrev pub step_sign : StepOp → Punct
-step_sign s.Increment = p.PlusPlus
-step_sign s.Decrement = p.MinusMinus
+abbrev pub step_punct : StepOp → Punct
+step_punct the_step.Increment = the_punct.PlusPlus
+step_punct the_step.Decrement = the_punct.MinusMinus
 
-abbrev pub int_sign : IntOp → Punct
-int_sign int.Add = p.Plus
-int_sign int.Sub = p.Minus
-int_sign int.Mul = p.Star
-int_sign int.Div = p.Slash
-int_sign int.Rem = p.Percent
-int_sign int.And = p.And
-int_sign int.Or = p.Or
-int_sign int.Xor = p.Caret
-int_sign int.Shl = p.ShiftLeft
-int_sign int.Shr = p.ShiftRight
-int_sign int.Lt = p.Less
-int_sign int.Le = p.LessEqual
-int_sign int.Gt = p.Greater
-int_sign int.Ge = p.GreaterEqual
-int_sign int.Eq = p.EqualEqual
-int_sign int.Ne = p.NotEqual
+abbrev pub int_punct : IntOp → Punct
+int_punct int.Add = the_punct.Plus
+int_punct int.Sub = the_punct.Minus
+int_punct int.Mul = the_punct.Star
+int_punct int.Div = the_punct.Slash
+int_punct int.Rem = the_punct.Percent
+int_punct int.And = the_punct.And
+int_punct int.Or = the_punct.Or
+int_punct int.Xor = the_punct.Caret
+int_punct int.Shl = the_punct.ShiftLeft
+int_punct int.Shr = the_punct.ShiftRight
+int_punct int.Lt = the_punct.Less
+int_punct int.Le = the_punct.LessEqual
+int_punct int.Gt = the_punct.Greater
+int_punct int.Ge = the_punct.GreaterEqual
+int_punct int.Eq = the_punct.EqualEqual
+int_punct int.Ne = the_punct.NotEqual
 
-abbrev pub binary_sign : BinaryOp → Punct
-binary_sign b.OrOr = p.OrOr
-binary_sign b.AndAnd = p.AndAnd
-binary_sign (b.Int op) = int_sign op
+abbrev pub binary_punct : BinaryOp → Punct
+binary_punct the_binary.OrOr = the_punct.OrOr
+binary_punct the_binary.AndAnd = the_punct.AndAnd
+binary_punct (the_binary.Int op) = int_punct op
 
-abbrev pub assign_sign : AssignOp → Punct
-assign_sign a.Plain = p.Equal
-assign_sign a.Mul = p.StarEqual
-assign_sign a.Div = p.SlashEqual
-assign_sign a.Rem = p.PercentEqual
-assign_sign a.Add = p.PlusEqual
-assign_sign a.Sub = p.MinusEqual
-assign_sign a.Shl = p.ShiftLeftEqual
-assign_sign a.Shr = p.ShiftRightEqual
-assign_sign a.And = p.AndEqual
-assign_sign a.Xor = p.CaretEqual
-assign_sign a.Or = p.OrEqual
+abbrev pub assign_punct : AssignOp → Punct
+assign_punct the_assign.Plain = the_punct.Equal
+assign_punct the_assign.Mul = the_punct.StarEqual
+assign_punct the_assign.Div = the_punct.SlashEqual
+assign_punct the_assign.Rem = the_punct.PercentEqual
+assign_punct the_assign.Add = the_punct.PlusEqual
+assign_punct the_assign.Sub = the_punct.MinusEqual
+assign_punct the_assign.Shl = the_punct.ShiftLeftEqual
+assign_punct the_assign.Shr = the_punct.ShiftRightEqual
+assign_punct the_assign.And = the_punct.AndEqual
+assign_punct the_assign.Xor = the_punct.CaretEqual
+assign_punct the_assign.Or = the_punct.OrEqual
 
 abbrev pub spec_keyword : SpecWord → Keyword
-spec_keyword w.Typedef = k.Typedef
-spec_keyword w.Extern = k.Extern
-spec_keyword w.Static = k.Static
-spec_keyword w.Inline = k.Inline
-spec_keyword w.Const = k.Const
-spec_keyword w.Void = k.Void
-spec_keyword w.Char = k.Char
-spec_keyword w.Short = k.Short
-spec_keyword w.Int = k.Int
-spec_keyword w.Long = k.Long
-spec_keyword w.Signed = k.Signed
-spec_keyword w.Unsigned = k.Unsigned
-spec_keyword w.Bool = k.Bool
+spec_keyword the_spec_word.Typedef = the_keyword.Typedef
+spec_keyword the_spec_word.Extern = the_keyword.Extern
+spec_keyword the_spec_word.Static = the_keyword.Static
+spec_keyword the_spec_word.Inline = the_keyword.Inline
+spec_keyword the_spec_word.Const = the_keyword.Const
+spec_keyword the_spec_word.Void = the_keyword.Void
+spec_keyword the_spec_word.Char = the_keyword.Char
+spec_keyword the_spec_word.Short = the_keyword.Short
+spec_keyword the_spec_word.Int = the_keyword.Int
+spec_keyword the_spec_word.Long = the_keyword.Long
+spec_keyword the_spec_word.Signed = the_keyword.Signed
+spec_keyword the_spec_word.Unsigned = the_keyword.Unsigned
+spec_keyword the_spec_word.Bool = the_keyword.Bool

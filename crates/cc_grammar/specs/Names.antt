@@ -3,9 +3,9 @@
 use Rattle.std.specs.Prelude.{Bool, true, false, ◌||◌, List, [], ◌∷◌, ◌++◌, if◌then◌else◌}
 use Rattle.std.specs.List.{list_any}
 use Rattle.std.specs.Str.{bytes_eq}
-use Rattle.cc_syntax.specs.Trees.{Name, SpecTree, word, named, struct, enum, SpecTrees, no_specs, more_specs, DeclTree, declared, nameless, pointer, array, function, grouped, InitTree, init, DeclarationTree, declaration, StartTree, start_declaration, start_expr, no_start, StmtTree, compound, plain, empty, if_then, if_else, switch, while_loop, do_loop, for_loop, break, continue, return, BlockTree, block, ItemTree, declares, case_label, default_label, does, ItemTrees, no_items, more_items, ExternalTree, outer_declaration, definition}
-use Rattle.cc_syntax.specs.declared.operator.SpecWord.{SpecWord}
-use Rattle.cc_syntax.specs.declared.operator.SpecWord.TheVariants as w
+use Rattle.cc_tree.specs.Trees.{Name, SpecTree, word, named, struct, enum, SpecTrees, no_specs, more_specs, DeclTree, declared, nameless, pointer, array, function, grouped, InitTree, init, DeclarationTree, declaration, StartTree, start_declaration, start_expr, no_start, StmtTree, compound, plain, empty, if_then, if_else, switch, while_loop, do_loop, for_loop, break, continue, return, BlockTree, block, ItemTree, declares, case_label, default_label, does, ItemTrees, no_items, more_items, ExternalTree, outer_declaration, definition}
+use Rattle.cc_tree.specs.declared.operator.SpecWord.{SpecWord}
+use Rattle.cc_tree.specs.declared.operator.SpecWord.TheVariants as the_spec_word
 
 abbrev pub Names : Type 0
 Names = List Name
@@ -14,7 +14,7 @@ abbrev pub is_type : Names → Name → Bool
 is_type names x = list_any (bytes_eq x) names
 
 abbrev pub is_typedef_word : SpecWord → Bool
-is_typedef_word w.Typedef = true
+is_typedef_word the_spec_word.Typedef = true
 is_typedef_word _ = false
 
 -- with this name too, once

@@ -3,7 +3,7 @@ use Rattle.std.specs.Prelude.{List, Result, Ok, Err, if◌then◌else◌}
 use Rattle.cc_lex.specs.declared.token.Token.{Token}
 use Rattle.cc_lex.specs.declared.keyword.Keyword.{Keyword}
 use Rattle.cc_lex.specs.declared.punct.Punct.{Punct}
-use Rattle.cc_grammar.specs.Classes.{next_is, next_is_key, skip}
+use Rattle.cc_grammar.specs.Classes.{next_is, next_is_keyword, skip}
 
 -- a value and the tokens after it, or the tokens from the one on at which reading fails
 abbrev pub Outcome : Type 0 → Type 0
@@ -38,5 +38,5 @@ refuse = λ ts. Err ts
 abbrev pub take : Punct → Parser (Unit {0})
 take s = λ ts. if next_is s ts then Ok (tt, skip ts) else Err ts
 
-abbrev pub take_key : Keyword → Parser (Unit {0})
-take_key w = λ ts. if next_is_key w ts then Ok (tt, skip ts) else Err ts
+abbrev pub take_keyword : Keyword → Parser (Unit {0})
+take_keyword w = λ ts. if next_is_keyword w ts then Ok (tt, skip ts) else Err ts

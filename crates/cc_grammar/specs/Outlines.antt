@@ -1,33 +1,33 @@
 -- The grammar (C17 6.5, 6.7, 6.8, 6.9, as far as the profile has it): the outline of each tree, production by production.
 use Rattle.std.specs.Prelude.{◌≡◌, ℕ, zero, suc, ◌+◌, ◌≤◌, Bool, true, false, List, [], ◌∷◌, Option, Some, None, if◌then◌else◌}
-use Rattle.cc_tree.specs.declared.place.Spot.{Spot}
+use Rattle.cc_base.specs.declared.place.Spot.{Spot}
 use Rattle.cc_lex.specs.declared.token.Token.{Token}
 use Rattle.cc_lex.specs.declared.token.TokenKind.TheVariants as kind
 use Rattle.cc_lex.specs.declared.keyword.Keyword.{Keyword}
-use Rattle.cc_lex.specs.declared.keyword.Keyword.TheVariants as k
+use Rattle.cc_lex.specs.declared.keyword.Keyword.TheVariants as the_keyword
 use Rattle.cc_lex.specs.declared.punct.Punct.{Punct}
-use Rattle.cc_lex.specs.declared.punct.Punct.TheVariants as p
-use Rattle.cc_syntax.specs.declared.operator.Side.TheVariants as side
-use Rattle.cc_syntax.specs.Trees.{Name, ExprTree, name, integer, character, string, paren, unary, binary, assign, step, choice, comma, call, member, arrow, index, cast, size_expr, size_type, ExprTrees, no_exprs, more_exprs, ExprOption, no_expr, an_expr, TypeTree, type_name, TypeTrees, no_types, more_types, SpecTree, word, named, struct, enum, SpecTrees, no_specs, more_specs, MemberTree, members, MemberTrees, no_members, more_members, ConstantTree, constant, ConstantTrees, no_constants, more_constants, DeclTree, declared, nameless, pointer, array, function, grouped, DeclTrees, no_declarators, more_declarators}
-use Rattle.cc_syntax.specs.Trees.{ValueTree, single, braces, ValueTrees, no_values, more_values, InitTree, init, DeclarationTree, declaration, StartTree, start_declaration, start_expr, no_start, StmtTree, compound, plain, empty, if_then, if_else, switch, while_loop, do_loop, for_loop, break, continue, return, BlockTree, block, ItemTree, declares, case_label, default_label, does, ItemTrees, no_items, more_items, ExternalTree, outer_declaration, definition}
+use Rattle.cc_lex.specs.declared.punct.Punct.TheVariants as the_punct
+use Rattle.cc_tree.specs.declared.operator.Side.TheVariants as side
+use Rattle.cc_tree.specs.Trees.{Name, ExprTree, name, integer, character, string, paren, unary, binary, assign, step, choice, comma, call, member, arrow, index, cast, size_expr, size_type, ExprTrees, no_exprs, more_exprs, ExprOption, no_expr, an_expr, TypeTree, type_name, TypeTrees, no_types, more_types, SpecTree, word, named, struct, enum, SpecTrees, no_specs, more_specs, MemberTree, members, MemberTrees, no_members, more_members, ConstantTree, constant, ConstantTrees, no_constants, more_constants, DeclTree, declared, nameless, pointer, array, function, grouped, DeclTrees, no_declarators, more_declarators}
+use Rattle.cc_tree.specs.Trees.{ValueTree, single, braces, ValueTrees, no_values, more_values, InitTree, init, DeclarationTree, declaration, StartTree, start_declaration, start_expr, no_start, StmtTree, compound, plain, empty, if_then, if_else, switch, while_loop, do_loop, for_loop, break, continue, return, BlockTree, block, ItemTree, declares, case_label, default_label, does, ItemTrees, no_items, more_items, ExternalTree, outer_declaration, definition}
 use Rattle.cc_grammar.specs.Outline.{Outline, end, token, part, ◌▸◌, AllHold, depth, spell, Meets, first}
-use Rattle.cc_grammar.specs.Levels.{level, binary_level, unary_sign, step_sign, binary_sign, assign_sign, spec_keyword}
+use Rattle.cc_grammar.specs.Levels.{level, binary_level, unary_punct, step_punct, binary_punct, assign_punct, spec_keyword}
 use Rattle.cc_grammar.specs.Names.{Names, is_type, has_typedef, after_declarator, after_inits, after_start, after_stmt, after_item, after_external}
 
 -- ---- Tokens and parts
 
 -- a punctuator or keyword, which gives its spot to a node or to none
-abbrev pub sign : Punct → Outline → Outline
-sign s = token (Unit {0}) (kind.Punct s) None
+abbrev pub punct : Punct → Outline → Outline
+punct s = token (Unit {0}) (kind.Punct s) None
 
-abbrev pub sign_of : Spot → Punct → Outline → Outline
-sign_of n s = token (Unit {0}) (kind.Punct s) (Some n)
+abbrev pub punct_of : Spot → Punct → Outline → Outline
+punct_of n s = token (Unit {0}) (kind.Punct s) (Some n)
 
-abbrev pub key : Keyword → Outline → Outline
-key w = token (Unit {0}) (kind.Keyword w) None
+abbrev pub keyword : Keyword → Outline → Outline
+keyword w = token (Unit {0}) (kind.Keyword w) None
 
-abbrev pub key_of : Spot → Keyword → Outline → Outline
-key_of n w = token (Unit {0}) (kind.Keyword w) (Some n)
+abbrev pub keyword_of : Spot → Keyword → Outline → Outline
+keyword_of n w = token (Unit {0}) (kind.Keyword w) (Some n)
 
 -- an identifier that is no typedef name
 abbrev pub identifier : Names → Option Spot → Name → Outline → Outline
@@ -141,7 +141,7 @@ any_one d = part (is_written d) (Unit {0})
 
 abbrev pub consts : ℕ → Outline
 consts zero = end
-consts (suc n) = key k.Const ▸ consts n
+consts (suc n) = keyword the_keyword.Const ▸ consts n
 
 -- ---- Specifiers
 
@@ -150,7 +150,7 @@ tag_of None = end
 tag_of (Some x) = token (Unit {0}) (kind.Identifier x) None ▸ end
 
 abbrev pub trailing_comma : Bool → Outline
-trailing_comma true = sign p.Comma ▸ end
+trailing_comma true = punct the_punct.Comma ▸ end
 trailing_comma false = end
 
 -- a struct or enum has a tag or a list, and a last comma stands behind something
@@ -185,21 +185,21 @@ abbrev mutual
   expr names (integer n v c) = token (Unit {0}) (kind.Integer v c) (Some n) ▸ end
   expr names (character n v) = token (Unit {0}) (kind.Character v) (Some n) ▸ end
   expr names (string n ss) = string_tokens n ss
-  expr names (paren n e) = sign_of n p.LeftParen ▸ operand 1 e (expr names e) ▸ sign p.RightParen ▸ end
-  expr names (unary n op e) = sign_of n (unary_sign op) ▸ operand 14 e (expr names e) ▸ end
-  expr names (binary n op a b) = operand (binary_level op) a (expr names a) ▸ sign_of n (binary_sign op) ▸ operand (binary_level op + 1) b (expr names b) ▸ end
-  expr names (assign n op a b) = operand 15 a (expr names a) ▸ sign_of n (assign_sign op) ▸ operand 2 b (expr names b) ▸ end
-  expr names (step n op side.Before e) = sign_of n (step_sign op) ▸ operand 15 e (expr names e) ▸ end
-  expr names (step n op side.After e) = operand 16 e (expr names e) ▸ sign_of n (step_sign op) ▸ end
-  expr names (choice n c a b) = operand 4 c (expr names c) ▸ sign_of n p.Question ▸ operand 1 a (expr names a) ▸ sign p.Colon ▸ operand 3 b (expr names b) ▸ end
-  expr names (comma n a b) = operand 1 a (expr names a) ▸ sign_of n p.Comma ▸ operand 2 b (expr names b) ▸ end
-  expr names (call n f es) = part false (n ≡ begins f) (operand 16 f (expr names f) ▸ sign p.LeftParen ▸ within (arguments names es) ▸ sign p.RightParen ▸ end) ▸ end
-  expr names (member n e x) = operand 16 e (expr names e) ▸ sign_of n p.Dot ▸ identifier names None x ▸ end
-  expr names (arrow n e x) = operand 16 e (expr names e) ▸ sign_of n p.Arrow ▸ identifier names None x ▸ end
-  expr names (index n a i) = operand 16 a (expr names a) ▸ sign_of n p.LeftBracket ▸ operand 1 i (expr names i) ▸ sign p.RightBracket ▸ end
-  expr names (cast n t e) = sign_of n p.LeftParen ▸ within (type_of names t) ▸ sign p.RightParen ▸ operand 14 e (expr names e) ▸ end
-  expr names (size_expr n e) = key_of n k.Sizeof ▸ operand 15 e (expr names e) ▸ end
-  expr names (size_type n t) = key_of n k.Sizeof ▸ sign p.LeftParen ▸ within (type_of names t) ▸ sign p.RightParen ▸ end
+  expr names (paren n e) = punct_of n the_punct.LeftParen ▸ operand 1 e (expr names e) ▸ punct the_punct.RightParen ▸ end
+  expr names (unary n op e) = punct_of n (unary_punct op) ▸ operand 14 e (expr names e) ▸ end
+  expr names (binary n op a b) = operand (binary_level op) a (expr names a) ▸ punct_of n (binary_punct op) ▸ operand (binary_level op + 1) b (expr names b) ▸ end
+  expr names (assign n op a b) = operand 15 a (expr names a) ▸ punct_of n (assign_punct op) ▸ operand 2 b (expr names b) ▸ end
+  expr names (step n op side.Before e) = punct_of n (step_punct op) ▸ operand 15 e (expr names e) ▸ end
+  expr names (step n op side.After e) = operand 16 e (expr names e) ▸ punct_of n (step_punct op) ▸ end
+  expr names (choice n c a b) = operand 4 c (expr names c) ▸ punct_of n the_punct.Question ▸ operand 1 a (expr names a) ▸ punct the_punct.Colon ▸ operand 3 b (expr names b) ▸ end
+  expr names (comma n a b) = operand 1 a (expr names a) ▸ punct_of n the_punct.Comma ▸ operand 2 b (expr names b) ▸ end
+  expr names (call n f es) = part false (n ≡ begins f) (operand 16 f (expr names f) ▸ punct the_punct.LeftParen ▸ within (arguments names es) ▸ punct the_punct.RightParen ▸ end) ▸ end
+  expr names (member n e x) = operand 16 e (expr names e) ▸ punct_of n the_punct.Dot ▸ identifier names None x ▸ end
+  expr names (arrow n e x) = operand 16 e (expr names e) ▸ punct_of n the_punct.Arrow ▸ identifier names None x ▸ end
+  expr names (index n a i) = operand 16 a (expr names a) ▸ punct_of n the_punct.LeftBracket ▸ operand 1 i (expr names i) ▸ punct the_punct.RightBracket ▸ end
+  expr names (cast n t e) = punct_of n the_punct.LeftParen ▸ within (type_of names t) ▸ punct the_punct.RightParen ▸ operand 14 e (expr names e) ▸ end
+  expr names (size_expr n e) = keyword_of n the_keyword.Sizeof ▸ operand 15 e (expr names e) ▸ end
+  expr names (size_type n t) = keyword_of n the_keyword.Sizeof ▸ punct the_punct.LeftParen ▸ within (type_of names t) ▸ punct the_punct.RightParen ▸ end
 
   pub arguments : Names → ExprTrees Spot → Outline
   arguments names no_exprs = end
@@ -207,7 +207,7 @@ abbrev mutual
 
   pub more_arguments : Names → ExprTrees Spot → Outline
   more_arguments names no_exprs = end
-  more_arguments names (more_exprs e es) = sign p.Comma ▸ operand 2 e (expr names e) ▸ within (more_arguments names es) ▸ end
+  more_arguments names (more_exprs e es) = punct the_punct.Comma ▸ operand 2 e (expr names e) ▸ within (more_arguments names es) ▸ end
 
   -- a constant expression in brackets, or none
   pub length_of : Names → ExprOption Spot → Outline
@@ -217,7 +217,7 @@ abbrev mutual
   -- the value of an enumeration constant, or none
   pub constant_value : Names → ExprOption Spot → Outline
   constant_value names no_expr = end
-  constant_value names (an_expr e) = sign p.Equal ▸ operand 3 e (expr names e) ▸ end
+  constant_value names (an_expr e) = punct the_punct.Equal ▸ operand 3 e (expr names e) ▸ end
 
   -- a type name, and a parameter
   pub type_of : Names → TypeTree Spot → Outline
@@ -232,13 +232,13 @@ abbrev mutual
 
   pub more_parameters : Names → TypeTrees Spot → Outline
   more_parameters names no_types = end
-  more_parameters names (more_types t ts) = sign p.Comma ▸ within (parameter names t) ▸ within (more_parameters names ts) ▸ end
+  more_parameters names (more_types t ts) = punct the_punct.Comma ▸ within (parameter names t) ▸ within (more_parameters names ts) ▸ end
 
   pub spec : Names → SpecTree Spot → Outline
-  spec names (word n w) = key_of n (spec_keyword w) ▸ end
+  spec names (word n w) = keyword_of n (spec_keyword w) ▸ end
   spec names (named n x) = token (is_type names x ≡ true) (kind.Identifier x) (Some n) ▸ end
-  spec names (struct n tag ms) = part false (IsShaped (struct n tag ms)) (key_of n k.Struct ▸ within (tag_of tag) ▸ within (member_list names ms) ▸ end) ▸ end
-  spec names (enum n tag cs trailing) = part false (IsShaped (enum n tag cs trailing)) (key_of n k.Enum ▸ within (tag_of tag) ▸ within (constant_list names cs trailing) ▸ end) ▸ end
+  spec names (struct n tag ms) = part false (IsShaped (struct n tag ms)) (keyword_of n the_keyword.Struct ▸ within (tag_of tag) ▸ within (member_list names ms) ▸ end) ▸ end
+  spec names (enum n tag cs trailing) = part false (IsShaped (enum n tag cs trailing)) (keyword_of n the_keyword.Enum ▸ within (tag_of tag) ▸ within (constant_list names cs trailing) ▸ end) ▸ end
 
   pub specs : Names → SpecTrees Spot → Outline
   specs names no_specs = end
@@ -247,14 +247,14 @@ abbrev mutual
   -- a list in braces, which counts, or none
   pub member_list : Names → MemberTrees Spot → Outline
   member_list names no_members = end
-  member_list names (more_members m ms) = part true (Unit {0}) (sign p.LeftBrace ▸ within (member_line names m) ▸ within (member_lines names ms) ▸ sign p.RightBrace ▸ end) ▸ end
+  member_list names (more_members m ms) = part true (Unit {0}) (punct the_punct.LeftBrace ▸ within (member_line names m) ▸ within (member_lines names ms) ▸ punct the_punct.RightBrace ▸ end) ▸ end
 
   pub member_lines : Names → MemberTrees Spot → Outline
   member_lines names no_members = end
   member_lines names (more_members m ms) = within (member_line names m) ▸ within (member_lines names ms) ▸ end
 
   pub member_line : Names → MemberTree Spot → Outline
-  member_line names (members n ss ds) = part false (BeginAt ss n) (within (specs names ss) ▸ part false (HasDeclarators ds) (declarators names ds) ▸ sign p.Semicolon ▸ end) ▸ end
+  member_line names (members n ss ds) = part false (BeginAt ss n) (within (specs names ss) ▸ part false (HasDeclarators ds) (declarators names ds) ▸ punct the_punct.Semicolon ▸ end) ▸ end
 
   pub declarators : Names → DeclTrees Spot → Outline
   declarators names no_declarators = end
@@ -262,16 +262,16 @@ abbrev mutual
 
   pub more_of_them : Names → DeclTrees Spot → Outline
   more_of_them names no_declarators = end
-  more_of_them names (more_declarators d ds) = sign p.Comma ▸ named_one d (declarator names d) ▸ within (more_of_them names ds) ▸ end
+  more_of_them names (more_declarators d ds) = punct the_punct.Comma ▸ named_one d (declarator names d) ▸ within (more_of_them names ds) ▸ end
 
   -- a list in braces, which counts, or none
   pub constant_list : Names → ConstantTrees Spot → Bool → Outline
   constant_list names no_constants trailing = end
-  constant_list names (more_constants c cs) trailing = part true (Unit {0}) (sign p.LeftBrace ▸ within (constant_of names c) ▸ within (more_constants_of names cs) ▸ within (trailing_comma trailing) ▸ sign p.RightBrace ▸ end) ▸ end
+  constant_list names (more_constants c cs) trailing = part true (Unit {0}) (punct the_punct.LeftBrace ▸ within (constant_of names c) ▸ within (more_constants_of names cs) ▸ within (trailing_comma trailing) ▸ punct the_punct.RightBrace ▸ end) ▸ end
 
   pub more_constants_of : Names → ConstantTrees Spot → Outline
   more_constants_of names no_constants = end
-  more_constants_of names (more_constants c cs) = sign p.Comma ▸ within (constant_of names c) ▸ within (more_constants_of names cs) ▸ end
+  more_constants_of names (more_constants c cs) = punct the_punct.Comma ▸ within (constant_of names c) ▸ within (more_constants_of names cs) ▸ end
 
   pub constant_of : Names → ConstantTree Spot → Outline
   constant_of names (constant n x e) = identifier names (Some n) x ▸ within (constant_value names e) ▸ end
@@ -279,10 +279,10 @@ abbrev mutual
   pub declarator : Names → DeclTree Spot → Outline
   declarator names (declared n x) = identifier names (Some n) x ▸ end
   declarator names nameless = end
-  declarator names (pointer n c d) = part false (ClosesOver d n) (token (Unit {0}) (kind.Punct p.Star) (opening_spot d n) ▸ within (consts c) ▸ any_one d (declarator names d) ▸ end) ▸ end
-  declarator names (array n d length) = part false (HasSpot d n) (part (is_written d) (is_direct d ≡ true) (declarator names d) ▸ token (Unit {0}) (kind.Punct p.LeftBracket) (suffix_spot d n) ▸ within (length_of names length) ▸ sign p.RightBracket ▸ end) ▸ end
-  declarator names (function n d ps) = part false (HasSpot d n) (part (is_written d) (is_direct d ≡ true) (declarator names d) ▸ token (Unit {0}) (kind.Punct p.LeftParen) (suffix_spot d n) ▸ within (parameters names ps) ▸ sign p.RightParen ▸ end) ▸ end
-  declarator names (grouped n d) = part false (ClosesOver d n) (token (Unit {0}) (kind.Punct p.LeftParen) (opening_spot d n) ▸ part (is_written d) (is_written d ≡ true) (declarator names d) ▸ sign p.RightParen ▸ end) ▸ end
+  declarator names (pointer n c d) = part false (ClosesOver d n) (token (Unit {0}) (kind.Punct the_punct.Star) (opening_spot d n) ▸ within (consts c) ▸ any_one d (declarator names d) ▸ end) ▸ end
+  declarator names (array n d length) = part false (HasSpot d n) (part (is_written d) (is_direct d ≡ true) (declarator names d) ▸ token (Unit {0}) (kind.Punct the_punct.LeftBracket) (suffix_spot d n) ▸ within (length_of names length) ▸ punct the_punct.RightBracket ▸ end) ▸ end
+  declarator names (function n d ps) = part false (HasSpot d n) (part (is_written d) (is_direct d ≡ true) (declarator names d) ▸ token (Unit {0}) (kind.Punct the_punct.LeftParen) (suffix_spot d n) ▸ within (parameters names ps) ▸ punct the_punct.RightParen ▸ end) ▸ end
+  declarator names (grouped n d) = part false (ClosesOver d n) (token (Unit {0}) (kind.Punct the_punct.LeftParen) (opening_spot d n) ▸ part (is_written d) (is_written d ≡ true) (declarator names d) ▸ punct the_punct.RightParen ▸ end) ▸ end
 
 -- ---- Initialisers and declarations
 
@@ -293,7 +293,7 @@ HasValues (more_values v vs) = Unit {0}
 abbrev mutual
   pub value : Names → ValueTree Spot → Outline
   value names (single e) = operand 2 e (expr names e) ▸ end
-  value names (braces n vs trailing) = part true (HasValues vs) (sign_of n p.LeftBrace ▸ within (values names vs) ▸ within (trailing_comma trailing) ▸ sign p.RightBrace ▸ end) ▸ end
+  value names (braces n vs trailing) = part true (HasValues vs) (punct_of n the_punct.LeftBrace ▸ within (values names vs) ▸ within (trailing_comma trailing) ▸ punct the_punct.RightBrace ▸ end) ▸ end
 
   pub values : Names → ValueTrees Spot → Outline
   values names no_values = end
@@ -301,11 +301,11 @@ abbrev mutual
 
   pub further_values : Names → ValueTrees Spot → Outline
   further_values names no_values = end
-  further_values names (more_values v vs) = sign p.Comma ▸ within (value names v) ▸ within (further_values names vs) ▸ end
+  further_values names (more_values v vs) = punct the_punct.Comma ▸ within (value names v) ▸ within (further_values names vs) ▸ end
 
 abbrev pub given : Names → Option (ValueTree Spot) → Outline
 given names None = end
-given names (Some v) = sign p.Equal ▸ within (value names v) ▸ end
+given names (Some v) = punct the_punct.Equal ▸ within (value names v) ▸ end
 
 abbrev pub init_of : Names → Bool → InitTree Spot → Outline
 init_of names typedef (init d v) = named_one d (declarator names d) ▸ within (given (after_declarator typedef d names) v) ▸ end
@@ -313,7 +313,7 @@ init_of names typedef (init d v) = named_one d (declarator names d) ▸ within (
 -- with the names before the list
 abbrev pub more_inits : Names → Bool → List (InitTree Spot) → Outline
 more_inits names typedef [] = end
-more_inits names typedef (i ∷ is) = sign p.Comma ▸ within (init_of names typedef i) ▸ within (more_inits (after_inits typedef (i ∷ []) names) typedef is) ▸ end
+more_inits names typedef (i ∷ is) = punct the_punct.Comma ▸ within (init_of names typedef i) ▸ within (more_inits (after_inits typedef (i ∷ []) names) typedef is) ▸ end
 
 abbrev pub inits : Names → Bool → List (InitTree Spot) → Outline
 inits names typedef [] = end
@@ -323,7 +323,7 @@ abbrev pub declaration_spot : DeclarationTree Spot → Type 0
 declaration_spot (declaration n ss is) = BeginAt ss n
 
 abbrev pub declaration_of : Names → DeclarationTree Spot → Outline
-declaration_of names (declaration n ss is) = within (specs names ss) ▸ within (inits names (has_typedef ss) is) ▸ sign p.Semicolon ▸ end
+declaration_of names (declaration n ss is) = within (specs names ss) ▸ within (inits names (has_typedef ss) is) ▸ punct the_punct.Semicolon ▸ end
 
 -- a declaration, which counts in a block
 abbrev pub declares_here : Bool → DeclarationTree Spot → Outline → Outline → Outline
@@ -353,31 +353,31 @@ clause names (Some e) = operand 1 e (expr names e) ▸ end
 -- with its semicolon
 abbrev pub start_of : Names → StartTree Spot → Outline
 start_of names (start_declaration d) = declares_here true d (declaration_of names d) ▸ end
-start_of names (start_expr e) = operand 1 e (expr names e) ▸ sign p.Semicolon ▸ end
-start_of names no_start = sign p.Semicolon ▸ end
+start_of names (start_expr e) = operand 1 e (expr names e) ▸ punct the_punct.Semicolon ▸ end
+start_of names no_start = punct the_punct.Semicolon ▸ end
 
 abbrev mutual
   pub stmt : Names → StmtTree Spot → Outline
   stmt names (compound b) = block_of names b
-  stmt names (plain n e) = part true (n ≡ begins e) (operand 1 e (expr names e) ▸ sign p.Semicolon ▸ end) ▸ end
-  stmt names (empty n) = part true (Unit {0}) (sign_of n p.Semicolon ▸ end) ▸ end
-  stmt names (if_then n c s) = part true (Unit {0}) (key_of n k.If ▸ sign p.LeftParen ▸ operand 1 c (expr names c) ▸ sign p.RightParen ▸ within (stmt names s) ▸ end) ▸ end
-  stmt names (if_else n c s o) = part true (Unit {0}) (key_of n k.If ▸ sign p.LeftParen ▸ operand 1 c (expr names c) ▸ sign p.RightParen ▸ within (stmt names s) ▸ token (is_open s ≡ false) (kind.Keyword k.Else) None ▸ within (stmt (after_stmt s names) o) ▸ end) ▸ end
-  stmt names (switch n e b) = part true (Unit {0}) (key_of n k.Switch ▸ sign p.LeftParen ▸ operand 1 e (expr names e) ▸ sign p.RightParen ▸ within (block_of names b) ▸ end) ▸ end
-  stmt names (while_loop n c s) = part true (Unit {0}) (key_of n k.While ▸ sign p.LeftParen ▸ operand 1 c (expr names c) ▸ sign p.RightParen ▸ within (stmt names s) ▸ end) ▸ end
-  stmt names (do_loop n s c) = part true (Unit {0}) (key_of n k.Do ▸ within (stmt names s) ▸ key k.While ▸ sign p.LeftParen ▸ operand 1 c (expr (after_stmt s names) c) ▸ sign p.RightParen ▸ sign p.Semicolon ▸ end) ▸ end
-  stmt names (for_loop n start test each s) = part true (Unit {0}) (key_of n k.For ▸ sign p.LeftParen ▸ within (start_of names start) ▸ within (clause (after_start start names) test) ▸ sign p.Semicolon ▸ within (clause (after_start start names) each) ▸ sign p.RightParen ▸ within (stmt (after_start start names) s) ▸ end) ▸ end
-  stmt names (break n) = part true (Unit {0}) (key_of n k.Break ▸ sign p.Semicolon ▸ end) ▸ end
-  stmt names (continue n) = part true (Unit {0}) (key_of n k.Continue ▸ sign p.Semicolon ▸ end) ▸ end
-  stmt names (return n e) = part true (Unit {0}) (key_of n k.Return ▸ within (clause names e) ▸ sign p.Semicolon ▸ end) ▸ end
+  stmt names (plain n e) = part true (n ≡ begins e) (operand 1 e (expr names e) ▸ punct the_punct.Semicolon ▸ end) ▸ end
+  stmt names (empty n) = part true (Unit {0}) (punct_of n the_punct.Semicolon ▸ end) ▸ end
+  stmt names (if_then n c s) = part true (Unit {0}) (keyword_of n the_keyword.If ▸ punct the_punct.LeftParen ▸ operand 1 c (expr names c) ▸ punct the_punct.RightParen ▸ within (stmt names s) ▸ end) ▸ end
+  stmt names (if_else n c s o) = part true (Unit {0}) (keyword_of n the_keyword.If ▸ punct the_punct.LeftParen ▸ operand 1 c (expr names c) ▸ punct the_punct.RightParen ▸ within (stmt names s) ▸ token (is_open s ≡ false) (kind.Keyword the_keyword.Else) None ▸ within (stmt (after_stmt s names) o) ▸ end) ▸ end
+  stmt names (switch n e b) = part true (Unit {0}) (keyword_of n the_keyword.Switch ▸ punct the_punct.LeftParen ▸ operand 1 e (expr names e) ▸ punct the_punct.RightParen ▸ within (block_of names b) ▸ end) ▸ end
+  stmt names (while_loop n c s) = part true (Unit {0}) (keyword_of n the_keyword.While ▸ punct the_punct.LeftParen ▸ operand 1 c (expr names c) ▸ punct the_punct.RightParen ▸ within (stmt names s) ▸ end) ▸ end
+  stmt names (do_loop n s c) = part true (Unit {0}) (keyword_of n the_keyword.Do ▸ within (stmt names s) ▸ keyword the_keyword.While ▸ punct the_punct.LeftParen ▸ operand 1 c (expr (after_stmt s names) c) ▸ punct the_punct.RightParen ▸ punct the_punct.Semicolon ▸ end) ▸ end
+  stmt names (for_loop n start test each s) = part true (Unit {0}) (keyword_of n the_keyword.For ▸ punct the_punct.LeftParen ▸ within (start_of names start) ▸ within (clause (after_start start names) test) ▸ punct the_punct.Semicolon ▸ within (clause (after_start start names) each) ▸ punct the_punct.RightParen ▸ within (stmt (after_start start names) s) ▸ end) ▸ end
+  stmt names (break n) = part true (Unit {0}) (keyword_of n the_keyword.Break ▸ punct the_punct.Semicolon ▸ end) ▸ end
+  stmt names (continue n) = part true (Unit {0}) (keyword_of n the_keyword.Continue ▸ punct the_punct.Semicolon ▸ end) ▸ end
+  stmt names (return n e) = part true (Unit {0}) (keyword_of n the_keyword.Return ▸ within (clause names e) ▸ punct the_punct.Semicolon ▸ end) ▸ end
 
   pub block_of : Names → BlockTree Spot → Outline
-  block_of names (block n is) = part true (Unit {0}) (sign_of n p.LeftBrace ▸ within (items names is) ▸ sign p.RightBrace ▸ end) ▸ end
+  block_of names (block n is) = part true (Unit {0}) (punct_of n the_punct.LeftBrace ▸ within (items names is) ▸ punct the_punct.RightBrace ▸ end) ▸ end
 
   pub item : Names → ItemTree Spot → Outline
   item names (declares d) = declares_here true d (declaration_of names d) ▸ end
-  item names (case_label n e) = part true (Unit {0}) (key_of n k.Case ▸ operand 3 e (expr names e) ▸ sign p.Colon ▸ end) ▸ end
-  item names (default_label n) = part true (Unit {0}) (key_of n k.Default ▸ sign p.Colon ▸ end) ▸ end
+  item names (case_label n e) = part true (Unit {0}) (keyword_of n the_keyword.Case ▸ operand 3 e (expr names e) ▸ punct the_punct.Colon ▸ end) ▸ end
+  item names (default_label n) = part true (Unit {0}) (keyword_of n the_keyword.Default ▸ punct the_punct.Colon ▸ end) ▸ end
   item names (does s) = stmt names s
 
   pub items : Names → ItemTrees Spot → Outline

@@ -7,7 +7,6 @@
 //! `HostShelf` and `StreamSink` stand over the system: they keep the traits' clauses and tell nothing of content.
 #![tactic(auto)]
 
-mod bytes;
 mod counts;
 mod host;
 mod shelf;
@@ -15,7 +14,7 @@ mod sink;
 mod stream;
 mod sure;
 
-pub use bytes::{ByteList, Memory};
+pub use cc_base::{Bytes as ByteList, Memory};
 pub use host::HostShelf;
 pub use shelf::{Found, Shelf, ShelfFault};
 pub use sink::{Sink, SinkFault};

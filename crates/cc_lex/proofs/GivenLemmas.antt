@@ -20,8 +20,8 @@ use Rattle.cc_lex.specs.Meanings.{lookup, named, word, faults, meaning}
 use Rattle.cc_lex.specs.Pieces.{Piece, white, comment, line, token, Cuts, starts_after}
 use Rattle.cc_lex.specs.Cut.{Cut, tokens_from}
 use Rattle.cc_lex.specs.Given.{is_constant_kind, CanBeGiven}
-use Rattle.cc_tree.specs.declared.place.Spot.{Spot}
-use Rattle.cc_tree.specs.Spots.{start, spot_behind}
+use Rattle.cc_base.specs.declared.place.Spot.{Spot}
+use Rattle.cc_base.specs.Spots.{start, spot_behind}
 use Rattle.cc_lex.proofs.Cases.{cases, and_true}
 use Rattle.cc_lex.proofs.TypeLemmas.{top, fits_top}
 use Rattle.cc_lex.proofs.FaultLemmas.{contained_cases, contains_none, with_none, number_sound}

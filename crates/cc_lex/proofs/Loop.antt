@@ -1,7 +1,7 @@
 -- A turn of the reader's loop.
 use Rattle.std.proofs.Common.{◌≡◌, ℕ, ◌+◌, ◌-◌, ◌<◌, Bool, true, List, [], ◌∷◌, ◌++◌, length, take, drop, length-take, length-drop, length-append, Ok, Err, refl, sym, ap, ◌∙◌, subst, arith}
-use Rattle.cc_tree.specs.declared.place.Spot.{Spot}
-use Rattle.cc_tree.specs.Spots.{start, next_spot, spot_behind}
+use Rattle.cc_base.specs.declared.place.Spot.{Spot}
+use Rattle.cc_base.specs.Spots.{start, next_spot, spot_behind}
 use Rattle.cc_lex.specs.declared.step.Step.{Step}
 use Rattle.cc_lex.specs.declared.step.Step.TheVariants as step
 use Rattle.cc_lex.specs.declared.step.Fault.{Fault}

@@ -1,7 +1,7 @@
 -- What holds of cuts.
 use Rattle.std.proofs.Common.{◌≡◌, ℕ, Bool, true, List, [], ◌∷◌, ◌++◌, length, append_assoc, Contains, refl, sym, ap, ◌∙◌, subst, inl, inr}
-use Rattle.cc_tree.specs.declared.place.Spot.{Spot}
-use Rattle.cc_tree.specs.Spots.{start, spot_behind}
+use Rattle.cc_base.specs.declared.place.Spot.{Spot}
+use Rattle.cc_base.specs.Spots.{start, spot_behind}
 use Rattle.cc_lex.specs.declared.token.Token.{Token}
 use Rattle.cc_lex.specs.Pieces.{Piece, white, comment, line, token, spell, Stands, Cuts, starts_after}
 use Rattle.cc_lex.specs.Cut.{Cut, IsFaultless, StandsAt, tokens_from}

@@ -1,7 +1,7 @@
 -- The one cut of a text into tokens (C17 6.4, paragraph 4).
 use Rattle.std.specs.Prelude.{ℕ, ◌≡◌, true, List, [], ◌∷◌, ◌++◌, drop}
-use Rattle.cc_tree.specs.declared.place.Spot.{Spot}
-use Rattle.cc_tree.specs.Spots.{start, spot_behind}
+use Rattle.cc_base.specs.declared.place.Spot.{Spot}
+use Rattle.cc_base.specs.Spots.{start, spot_behind}
 use Rattle.cc_lex.specs.declared.token.Token.{Token}
 use Rattle.cc_lex.specs.declared.token.LexFault.{LexFault}
 use Rattle.cc_lex.specs.declared.token.LexFault.TheVariants as fault

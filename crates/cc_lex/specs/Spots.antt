@@ -1,8 +1,8 @@
 -- Lines and columns of the offsets of a text, from 1.
 use Rattle.std.specs.Prelude.{ℕ, ◌==◌, if◌then◌else◌, Bool, List, [], ◌∷◌, take}
 use Rattle.std.specs.List.{list_any}
-use Rattle.cc_tree.specs.declared.place.Spot.{Spot}
-use Rattle.cc_tree.specs.Spots.{start, spot_behind}
+use Rattle.cc_base.specs.declared.place.Spot.{Spot}
+use Rattle.cc_base.specs.Spots.{start, spot_behind}
 
 -- where the byte at the offset stands
 abbrev pub spot_at : List ℕ → ℕ → Spot

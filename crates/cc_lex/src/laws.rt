@@ -5,7 +5,7 @@ ghost use Rattle.cc_lex.specs.Faults.{IsClean};
 ghost use Rattle.cc_lex.specs.Given.{CanBeGiven};
 ghost use Rattle.cc_lex.specs.Pieces.{Piece, Cuts, spell};
 ghost use Rattle.cc_lex.specs.declared.token.Token.{Token};
-ghost use Rattle.cc_tree.specs.Spots.{start};
+ghost use Rattle.cc_base.specs.Spots.{start};
 
 /// A text has at most one cut.
 pub fn a_text_has_at_most_one_cut()

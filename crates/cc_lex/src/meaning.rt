@@ -17,7 +17,7 @@ use crate::punct::{DIGRAPHS, PUNCTS, Punct};
 use crate::step::Fault;
 use crate::token::TokenKind;
 use cc_arith::IntKind;
-use cc_tree::{Bytes, Text};
+use cc_base::{Bytes, Text};
 use std::alloc::{AllocError, Global};
 
 /// Whether the two have the same bytes.

@@ -11,7 +11,7 @@ use crate::meaning::meaning;
 use crate::spot::spot_after;
 use crate::step::{Fault, Step, everywhere, read_step};
 use crate::token::{LexFault, Token, TokenList};
-use cc_tree::{Memory, Spot};
+use cc_base::{Memory, Spot};
 use std::alloc::Global;
 
 /// Whether only spaces and tabs stand on the line so far, behind these bytes.

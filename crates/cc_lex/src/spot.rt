@@ -1,9 +1,9 @@
 // Lines and columns.
 ghost use Rattle.std.specs.Prelude.{◌≡◌, ◌≤◌, ◌<◌, ◌+◌, ◌-◌, ◌^◌, length, take, count_by};
-ghost use Rattle.cc_tree.specs.Spots.{spot_behind};
+ghost use Rattle.cc_base.specs.Spots.{spot_behind};
 ghost use Rattle.cc_lex.specs.Spots.{spot_at, is_feed, behind_last};
 
-use cc_tree::Spot;
+use cc_base::Spot;
 
 /// Where the byte behind these stands, if the first of them stands at `spot`.
 pub fn spot_after(mut spot: Spot, mut z: &[u8]) -> Spot

@@ -1,7 +1,7 @@
 // The rules of `docs/tokens.md` by examples, worked out by hand.
 
 use super::*;
-use cc_tree::Spot;
+use cc_base::Spot;
 use std::alloc::Global;
 use std::process::Abort;
 use std::test::Fail;

@@ -4,7 +4,7 @@ ghost use Rattle.std.specs.Prelude.{◌≡◌};
 use crate::keyword::Keyword;
 use crate::punct::Punct;
 use cc_arith::IntKind;
-use cc_tree::{Bytes, List, Spot, Text};
+use cc_base::{Bytes, List, Spot, Text};
 use std::alloc::AllocError;
 
 /// What a token is.

@@ -1,8 +1,8 @@
 -- What reading gives is the one tree, and where it gives none there is none.
 use Rattle.std.proofs.Common.{◌≡◌, List, Ok, Err}
-use Rattle.cc_tree.specs.declared.place.Spot.{Spot}
+use Rattle.cc_base.specs.declared.place.Spot.{Spot}
 use Rattle.cc_lex.specs.declared.token.Token.{Token}
-use Rattle.cc_syntax.specs.Trees.{ExternalTree}
+use Rattle.cc_tree.specs.Trees.{ExternalTree}
 use Rattle.cc_grammar.specs.Outlines.{limit}
 use Rattle.cc_grammar.specs.Reading.{reading}
 use Rattle.cc_parse_laws.proofs.CompleteFiles.{each_file_is_read}

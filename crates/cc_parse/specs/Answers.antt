@@ -1,8 +1,8 @@
 -- What the parser answers.
 use Rattle.std.specs.Prelude.{◌≡◌, ℕ, ◌-◌, List, length, Err}
-use Rattle.cc_tree.specs.declared.place.Spot.{Spot}
+use Rattle.cc_base.specs.declared.place.Spot.{Spot}
 use Rattle.cc_lex.specs.declared.token.Token.{Token}
-use Rattle.cc_syntax.specs.Trees.{ExternalTree}
+use Rattle.cc_tree.specs.Trees.{ExternalTree}
 use Rattle.cc_grammar.specs.Outlines.{Orderly, Spells, WellFormed, limit}
 use Rattle.cc_grammar.specs.Reading.{reading}
 use Rattle.cc_parse.specs.declared.fault.ParseFault.{ParseFault}

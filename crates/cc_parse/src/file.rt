@@ -1,6 +1,6 @@
 // The tree of a file.
 ghost use Rattle.std.specs.Prelude.{◌≡◌, ◌≢◌, IfOk, IfErr};
-ghost use Rattle.cc_syntax.specs.Views.{view_file};
+ghost use Rattle.cc_tree.specs.Views.{view_file};
 ghost use Rattle.cc_parse.specs.Answers.{IsTheTree, HasNoTree, Stops};
 ghost use Rattle.cc_parse.specs.declared.fault.ParseFault.TheVariants as fault;
 
@@ -8,7 +8,7 @@ use crate::fault::ParseFault;
 use cc_lex::TokenList;
 use cc_parse_files::reading;
 use cc_parse_tokens::{Cursor, Fault};
-use cc_syntax::Unit;
+use cc_tree::Unit;
 use std::alloc::Global;
 
 /// How deep a tree may be.

@@ -2,7 +2,7 @@
 
 use crate::{ParseFault, parse};
 use cc_lex::lex;
-use cc_tree::Memory;
+use cc_base::Memory;
 use std::alloc::Global;
 use std::process::Abort;
 use std::test::Fail;

@@ -1,6 +1,6 @@
 -- What a beginning leads to.
 use Rattle.std.proofs.Common.{◌≡◌, refl, ℕ, List}
-use Rattle.cc_tree.specs.declared.place.Spot.{Spot}
+use Rattle.cc_base.specs.declared.place.Spot.{Spot}
 use Rattle.cc_lex.specs.declared.token.Token.{Token}
 use Rattle.cc_grammar.specs.Names.{Names}
 use Rattle.cc_grammar.specs.Classes.{Start, begins_name, begins_integer, begins_character, begins_string, begins_paren, begins_unary, begins_step, begins_sizeof, begins_nothing, skip}

@@ -1,13 +1,13 @@
 -- The loop of the code beside the recursion of the definition: what goes on behind an expression makes it deeper.
 use Rattle.std.proofs.Common.{◌≡◌, ◌≤◌, ◌<◌, ◌+◌, ◌-◌, refl, ℕ, zero, suc, true, false, List, Ok, Err, arith, sym, ap, ◌∙◌, ◌&&◌, nat_le, nat_lt}
 use Rattle.std.proofs.lemmas.Bool.{and_parts, ltb-true}
-use Rattle.cc_tree.specs.declared.place.Spot.{Spot}
+use Rattle.cc_base.specs.declared.place.Spot.{Spot}
 use Rattle.cc_lex.specs.declared.token.Token.{Token}
-use Rattle.cc_lex.specs.declared.punct.Punct.TheVariants as p
-use Rattle.cc_syntax.specs.declared.operator.Side.TheVariants as side
-use Rattle.cc_syntax.specs.Trees.{ExprTree, binary, assign, step, choice, comma, call, member, arrow, index}
-use Rattle.cc_syntax.specs.Views.{gathered}
-use Rattle.cc_syntax.specs.Depth.{expr_depth}
+use Rattle.cc_lex.specs.declared.punct.Punct.TheVariants as the_punct
+use Rattle.cc_tree.specs.declared.operator.Side.TheVariants as side
+use Rattle.cc_tree.specs.Trees.{ExprTree, binary, assign, step, choice, comma, call, member, arrow, index}
+use Rattle.cc_tree.specs.Views.{gathered}
+use Rattle.cc_tree.specs.Depth.{expr_depth}
 use Rattle.cc_grammar.specs.Levels.{level, binary_level}
 use Rattle.cc_grammar.specs.Names.{Names}
 use Rattle.cc_grammar.specs.Outlines.{begins}
@@ -41,12 +41,12 @@ module _ (names : Names) (inner : Inner) (d : ℕ) where
   go_on_deep left (goes_binary op) n ts = deep_map _ (binary n op left) (λ b. omega arith) (inner.expr (binary_level op + 1) ts)
   go_on_deep left (goes_assign op) n ts = deep_map _ (assign n op left) (λ b. omega arith) (inner.expr 2 ts)
   go_on_deep left goes_question n ts =
-      deep_bind _ (λ a. take p.Colon >> (choice n left a <$> inner.expr 3))
-      (λ a s. deep_bind _ (λ _. choice n left a <$> inner.expr 3) (λ _ m. deep_map _ (choice n left a) (λ b. omega arith) (inner.expr 3 m)) (take p.Colon s)) (inner.expr 1 ts)
+      deep_bind _ (λ a. take the_punct.Colon >> (choice n left a <$> inner.expr 3))
+      (λ a s. deep_bind _ (λ _. choice n left a <$> inner.expr 3) (λ _ m. deep_map _ (choice n left a) (λ b. omega arith) (inner.expr 3 m)) (take the_punct.Colon s)) (inner.expr 1 ts)
   go_on_deep left goes_comma n ts = deep_map _ (comma n left) (λ b. omega arith) (inner.expr 2 ts)
   go_on_deep left goes_call n ts = deep_map _ (λ es. call (begins left) left (gathered es)) (λ b. omega arith) (arguments names inner d ts)
   go_on_deep left goes_index n ts =
-      deep_bind _ (λ i. take p.RightBracket >> pure (index n left i)) (λ i s. deep_map _ (λ _. index n left i) (λ _. omega arith) (take p.RightBracket s)) (inner.expr 1 ts)
+      deep_bind _ (λ i. take the_punct.RightBracket >> pure (index n left i)) (λ i s. deep_map _ (λ _. index n left i) (λ _. omega arith) (take the_punct.RightBracket s)) (inner.expr 1 ts)
   go_on_deep left goes_dot n ts = deep_map _ (member n left) (λ b. omega arith) (id names ts)
   go_on_deep left goes_arrow n ts = deep_map _ (arrow n left) (λ b. omega arith) (id names ts)
   go_on_deep left (goes_step op) n ts = λ x r e. let same : step n op side.After left ≡ x = made (step n op side.After left) x ts r _ refl e in omega (arith, ap expr_depth same)

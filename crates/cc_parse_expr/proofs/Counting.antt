@@ -1,9 +1,9 @@
 -- The `const` behind a `*`, turn by turn.
 use Rattle.std.proofs.Common.{◌≡◌, ◌+◌, ◌-◌, ◌<◌, ◌≤◌, refl, ℕ, Bool, true, false, List, length, Ok, Err, arith, ap, ◌∙◌}
 use Rattle.cc_lex.specs.declared.token.Token.{Token}
-use Rattle.cc_lex.specs.declared.keyword.Keyword.TheVariants as k
+use Rattle.cc_lex.specs.declared.keyword.Keyword.TheVariants as the_keyword
 use Rattle.cc_grammar.specs.Names.{Names}
-use Rattle.cc_grammar.specs.Classes.{next_is_key, skip}
+use Rattle.cc_grammar.specs.Classes.{next_is_keyword, skip}
 use Rattle.cc_grammar.specs.Outcomes.{Outcome, and_then, ◌<$>◌, pure}
 use Rattle.cc_grammar.specs.Reading.{Inner, branch, skipping, consts_by}
 use Rattle.cc_parse_tokens.proofs.Turns.{one_more, no_more}
@@ -33,17 +33,17 @@ module _ (names : Names) (inner : Inner) (d : ℕ) where
   by_next count turns ts true e = one_counted count (consts_by names inner d turns (skip ts))
   by_next count turns ts false e = absurd cc
 
-  pub counts : (total : Outcome ℕ) (count n at : ℕ) (ts : List Token) → at < n → Counting total count (n - at) ts → true ≡ next_is_key k.Const ts → Counting total (count + 1) (n - (at + 1)) (skip ts)
+  pub counts : (total : Outcome ℕ) (count n at : ℕ) (ts : List Token) → at < n → Counting total count (n - at) ts → true ≡ next_is_keyword the_keyword.Const ts → Counting total (count + 1) (n - (at + 1)) (skip ts)
   counts total count n at ts below e is =
-      one_more (λ turns. counted count (consts_by names inner d turns ts)) n at below e ∙ by_next count (n - (at + 1)) ts (next_is_key k.Const ts) is
+      one_more (λ turns. counted count (consts_by names inner d turns ts)) n at below e ∙ by_next count (n - (at + 1)) ts (next_is_keyword the_keyword.Const ts) is
 
   stops_at : (count turns : ℕ) (ts : List Token) (b : Bool) → false ≡ b → counted count (branch b (skipping ((λ c. c + 1) <$> consts_by names inner d turns)) (pure 0) ts) ≡ Ok (count, ts)
   stops_at count turns ts true e = absurd cc
   stops_at count turns ts false e = none_more count ts
 
-  pub stops : (total : Outcome ℕ) (count n at : ℕ) (ts : List Token) → at < n → Counting total count (n - at) ts → false ≡ next_is_key k.Const ts → total ≡ Ok (count, ts)
+  pub stops : (total : Outcome ℕ) (count n at : ℕ) (ts : List Token) → at < n → Counting total count (n - at) ts → false ≡ next_is_keyword the_keyword.Const ts → total ≡ Ok (count, ts)
   stops total count n at ts below e is =
-      one_more (λ turns. counted count (consts_by names inner d turns ts)) n at below e ∙ stops_at count (n - (at + 1)) ts (next_is_key k.Const ts) is
+      one_more (λ turns. counted count (consts_by names inner d turns ts)) n at below e ∙ stops_at count (n - (at + 1)) ts (next_is_keyword the_keyword.Const ts) is
 
   pub ends : (total : Outcome ℕ) (count n at : ℕ) (ts : List Token) → n ≤ at → Counting total count (n - at) ts → total ≡ Ok (count, ts)
   ends total count n at ts done e = no_more (λ turns. counted count (consts_by names inner d turns ts)) n at done e ∙ none_more count ts

@@ -2,7 +2,7 @@
 use Rattle.std.proofs.Common.{◌≡◌, ◌<◌, ◌≤◌, ◌+◌, ◌-◌, refl, ℕ, suc, Bool, true, false, List, [], ◌∷◌, ◌++◌, map, length, Ok, Err, arith, sym, ap, ◌∙◌}
 use Rattle.std.proofs.lemmas.List.{map_push}
 use Rattle.cc_lex.specs.declared.token.Token.{Token}
-use Rattle.cc_lex.specs.declared.punct.Punct.TheVariants as p
+use Rattle.cc_lex.specs.declared.punct.Punct.TheVariants as the_punct
 use Rattle.cc_grammar.specs.Classes.{next_is, skip}
 use Rattle.cc_grammar.specs.Outcomes.{Outcome, Parser, take}
 use Rattle.cc_grammar.specs.Reading.{enclosed_by}
@@ -29,22 +29,22 @@ module _ {A B : Type 0} (view : A → B) (one : Parser B) (total : Outcome (List
   enclosed_fails h e us f = enclosed_turn h e ∙ rw f refl
 
   -- without a comma the brace comes, or reading fails
-  pub enclosed_refused : at < end → Enclosing → (x : A) (us vs : List Token) → one ts ≡ Ok (view x, us) → false ≡ next_is p.Comma us → take p.RightBrace us ≡ Err vs → total ≡ Err vs
+  pub enclosed_refused : at < end → Enclosing → (x : A) (us vs : List Token) → one ts ≡ Ok (view x, us) → false ≡ next_is the_punct.Comma us → take the_punct.RightBrace us ≡ Err vs → total ≡ Err vs
   unfolding enclosed_from
   enclosed_refused h e x us vs f c b = enclosed_turn h e ∙ rw (f, sym c, b) refl
 
-  pub enclosed_ends : at < end → Enclosing → (x : A) (us vs : List Token) → one ts ≡ Ok (view x, us) → false ≡ next_is p.Comma us → take p.RightBrace us ≡ Ok (tt, vs)
+  pub enclosed_ends : at < end → Enclosing → (x : A) (us vs : List Token) → one ts ≡ Ok (view x, us) → false ≡ next_is the_punct.Comma us → take the_punct.RightBrace us ≡ Ok (tt, vs)
       → total ≡ Ok ((map view (found ++ x ∷ []), false), vs)
   unfolding enclosed_from
   enclosed_ends h e x us vs f c b = enclosed_turn h e ∙ rw (f, sym c, b) (pushed view false found x vs)
 
   -- behind a comma the brace may come too
-  pub enclosed_trails : at < end → Enclosing → (x : A) (us : List Token) → one ts ≡ Ok (view x, us) → true ≡ next_is p.Comma us → true ≡ next_is p.RightBrace (skip us)
+  pub enclosed_trails : at < end → Enclosing → (x : A) (us : List Token) → one ts ≡ Ok (view x, us) → true ≡ next_is the_punct.Comma us → true ≡ next_is the_punct.RightBrace (skip us)
       → total ≡ Ok ((map view (found ++ x ∷ []), true), skip (skip us))
   unfolding enclosed_from
   enclosed_trails h e x us f c b = enclosed_turn h e ∙ rw (f, sym c, sym b) (pushed view true found x (skip (skip us)))
 
-  pub enclosed_goes : at < end → Enclosing → (x : A) (us : List Token) → one ts ≡ Ok (view x, us) → true ≡ next_is p.Comma us → false ≡ next_is p.RightBrace (skip us)
+  pub enclosed_goes : at < end → Enclosing → (x : A) (us : List Token) → one ts ≡ Ok (view x, us) → true ≡ next_is the_punct.Comma us → false ≡ next_is the_punct.RightBrace (skip us)
       → total ≡ enclosed_from one (end - (at + 1)) (map view (found ++ x ∷ [])) (skip us)
   unfolding enclosed_from
   enclosed_goes h e x us f c b = enclosed_turn h e ∙ rw (f, sym c, sym b) (ap (λ zs. enclosed_from one (end - (at + 1)) zs (skip us)) (sym (map_push view found x)))

@@ -2,7 +2,7 @@
 use Rattle.std.proofs.Common.{◌≡◌, ◌<◌, ◌≤◌, ◌+◌, ◌-◌, refl, ℕ, suc, Bool, true, false, List, [], ◌∷◌, ◌++◌, map, length, Ok, Err, arith, sym, ap, ◌∙◌}
 use Rattle.std.proofs.lemmas.List.{map_push, map-id}
 use Rattle.cc_lex.specs.declared.token.Token.{Token}
-use Rattle.cc_lex.specs.declared.punct.Punct.TheVariants as p
+use Rattle.cc_lex.specs.declared.punct.Punct.TheVariants as the_punct
 use Rattle.cc_grammar.specs.Classes.{next_is, skip}
 use Rattle.cc_grammar.specs.Outcomes.{Outcome, Parser}
 use Rattle.cc_grammar.specs.Reading.{separated, repeated}
@@ -31,11 +31,11 @@ module _ {A B : Type 0} (view : A → B) (one : Parser B) (total : Outcome (List
   unfolding separated_from
   separated_fails h e us f = separated_turn h e ∙ rw f refl
 
-  pub separated_ends : at < end → Separating → (x : A) (us : List Token) → one ts ≡ Ok (view x, us) → false ≡ next_is p.Comma us → total ≡ Ok (map view (found ++ x ∷ []), us)
+  pub separated_ends : at < end → Separating → (x : A) (us : List Token) → one ts ≡ Ok (view x, us) → false ≡ next_is the_punct.Comma us → total ≡ Ok (map view (found ++ x ∷ []), us)
   unfolding separated_from
   separated_ends h e x us f c = separated_turn h e ∙ rw (f, sym c) (pushed view found x us)
 
-  pub separated_goes : at < end → Separating → (x : A) (us : List Token) → one ts ≡ Ok (view x, us) → true ≡ next_is p.Comma us
+  pub separated_goes : at < end → Separating → (x : A) (us : List Token) → one ts ≡ Ok (view x, us) → true ≡ next_is the_punct.Comma us
       → total ≡ separated_from one (end - (at + 1)) (map view (found ++ x ∷ [])) (skip us)
   unfolding separated_from
   separated_goes h e x us f c = separated_turn h e ∙ rw (f, sym c) (ap (λ zs. separated_from one (end - (at + 1)) zs (skip us)) (sym (map_push view found x)))

@@ -1,14 +1,14 @@
 -- A specifier by the class of its first token.
 use Rattle.std.proofs.Common.{◌≡◌, ℕ, Bool, true, false, List, [], ◌∷◌, Option, Some, None, refl, if◌then◌else◌}
-use Rattle.cc_tree.specs.declared.place.Spot.{Spot}
+use Rattle.cc_base.specs.declared.place.Spot.{Spot}
 use Rattle.cc_lex.specs.declared.token.Token.{Token}
 use Rattle.cc_lex.specs.declared.token.TokenKind.{TokenKind}
 use Rattle.cc_lex.specs.declared.token.TokenKind.TheVariants as kind
 use Rattle.cc_lex.specs.declared.keyword.Keyword.{Keyword}
-use Rattle.cc_lex.specs.declared.keyword.Keyword.TheVariants as k
-use Rattle.cc_syntax.specs.Trees.{Name}
+use Rattle.cc_lex.specs.declared.keyword.Keyword.TheVariants as the_keyword
+use Rattle.cc_tree.specs.Trees.{Name}
 use Rattle.cc_grammar.specs.Names.{Names, is_type}
-use Rattle.cc_grammar.specs.Classes.{ident, next_ident, SpecStart, spec_word, spec_struct, spec_enum, spec_named, no_spec, spec_key, spec_kind, spec_start}
+use Rattle.cc_grammar.specs.Classes.{ident, next_ident, SpecStart, spec_word, spec_struct, spec_enum, spec_named, no_spec, spec_keyword, spec_kind, spec_start}
 use Rattle.cc_grammar.specs.Reading.{Inner, spec_by}
 use Rattle.cc_parse_tokens.specs.Classes.{class_of_spec}
 use Rattle.cc_parse_expr.specs.Parts.{spec_of_class}
@@ -21,22 +21,22 @@ IsIdent spec_struct y = Unit {0}
 IsIdent spec_enum y = Unit {0}
 IsIdent no_spec y = Unit {0}
 
-key_is : (w : Keyword) → IsIdent (spec_key w) None
-key_is k.Typedef = tt
-key_is k.Extern = tt
-key_is k.Static = tt
-key_is k.Inline = tt
-key_is k.Const = tt
-key_is k.Void = tt
-key_is k.Char = tt
-key_is k.Short = tt
-key_is k.Int = tt
-key_is k.Long = tt
-key_is k.Signed = tt
-key_is k.Unsigned = tt
-key_is k.Bool = tt
-key_is k.Struct = tt
-key_is k.Enum = tt
+key_is : (w : Keyword) → IsIdent (spec_keyword w) None
+key_is the_keyword.Typedef = tt
+key_is the_keyword.Extern = tt
+key_is the_keyword.Static = tt
+key_is the_keyword.Inline = tt
+key_is the_keyword.Const = tt
+key_is the_keyword.Void = tt
+key_is the_keyword.Char = tt
+key_is the_keyword.Short = tt
+key_is the_keyword.Int = tt
+key_is the_keyword.Long = tt
+key_is the_keyword.Signed = tt
+key_is the_keyword.Unsigned = tt
+key_is the_keyword.Bool = tt
+key_is the_keyword.Struct = tt
+key_is the_keyword.Enum = tt
 key_is _ = tt
 
 ident_is : (x : Name) (b : Bool) → IsIdent (if b then spec_named x else no_spec) (Some x)

@@ -1,9 +1,9 @@
 -- The suffixes of a declarator, turn by turn.
 use Rattle.std.proofs.Common.{◌≡◌, ◌+◌, ◌-◌, ◌<◌, ◌≤◌, ◌&&◌, nat_lt, refl, ℕ, suc, true, false, List, Ok, Err, sym, ◌∙◌}
-use Rattle.cc_tree.specs.declared.place.Spot.{Spot}
+use Rattle.cc_base.specs.declared.place.Spot.{Spot}
 use Rattle.cc_lex.specs.declared.token.Token.{Token}
-use Rattle.cc_syntax.specs.Depth.{declarator_depth}
-use Rattle.cc_syntax.specs.Trees.{DeclTree}
+use Rattle.cc_tree.specs.Depth.{declarator_depth}
+use Rattle.cc_tree.specs.Trees.{DeclTree}
 use Rattle.cc_grammar.specs.Names.{Names}
 use Rattle.cc_grammar.specs.Outcomes.{Outcome}
 use Rattle.cc_grammar.specs.Reading.{Inner, suffix, suffixes, suffix_comes}

@@ -1,19 +1,19 @@
 -- Branches of the rules of expressions, which the code has as methods of their own.
 use Rattle.std.specs.Prelude.{ℕ, ℤ, Option, Some, None}
 use Rattle.cc_arith.specs.declared.kind.IntKind.{IntKind}
-use Rattle.cc_syntax.specs.declared.operator.Side.TheVariants as side
-use Rattle.cc_syntax.specs.declared.operator.StepOp.{StepOp}
-use Rattle.cc_syntax.specs.declared.operator.UnaryOp.{UnaryOp}
-use Rattle.cc_tree.specs.declared.place.Spot.{Spot}
-use Rattle.cc_lex.specs.declared.punct.Punct.TheVariants as p
-use Rattle.cc_syntax.specs.Trees.{ExprTree, TypeTree, name, integer, character, string, paren, unary, step, choice, cast, size_type}
+use Rattle.cc_tree.specs.declared.operator.Side.TheVariants as side
+use Rattle.cc_tree.specs.declared.operator.StepOp.{StepOp}
+use Rattle.cc_tree.specs.declared.operator.UnaryOp.{UnaryOp}
+use Rattle.cc_base.specs.declared.place.Spot.{Spot}
+use Rattle.cc_lex.specs.declared.punct.Punct.TheVariants as the_punct
+use Rattle.cc_tree.specs.Trees.{ExprTree, TypeTree, name, integer, character, string, paren, unary, step, choice, cast, size_type}
 use Rattle.cc_grammar.specs.Names.{Names}
 use Rattle.cc_grammar.specs.Outcomes.{Parser, ◌>>=◌, ◌>>◌, pure, ◌<$>◌, take, refuse}
 use Rattle.cc_grammar.specs.Reading.{Inner, without_name, typed, skipping, id, literals}
 
 -- `: no`, behind `test ? yes`
 abbrev pub choosing : Inner → ExprTree Spot → ExprTree Spot → Spot → Parser (ExprTree Spot)
-choosing inner test first n = take p.Colon >> (choice n test first <$> inner.expr 3)
+choosing inner test first n = take the_punct.Colon >> (choice n test first <$> inner.expr 3)
 
 -- a name
 abbrev pub naming : Names → Spot → Parser (ExprTree Spot)
@@ -37,11 +37,11 @@ stepping inner op n = skipping (step n op side.Before <$> inner.expr 15)
 
 -- `) e`, behind `(type`
 abbrev pub cast_operand : Inner → TypeTree Spot → Spot → Parser (ExprTree Spot)
-cast_operand inner t n = take p.RightParen >> (cast n t <$> inner.expr 14)
+cast_operand inner t n = take the_punct.RightParen >> (cast n t <$> inner.expr 14)
 
 -- `e)`, behind `(`
 abbrev pub enclosing : Inner → Spot → Parser (ExprTree Spot)
-enclosing inner n = inner.expr 1 >>= (λ e. take p.RightParen >> pure (paren n e))
+enclosing inner n = inner.expr 1 >>= (λ e. take the_punct.RightParen >> pure (paren n e))
 
 module _ (names : Names) (inner : Inner) (d : ℕ) where
   -- string literals
@@ -54,4 +54,4 @@ module _ (names : Names) (inner : Inner) (d : ℕ) where
 
   -- `(type)`, behind `sizeof`
   abbrev pub sizing : Spot → Parser (ExprTree Spot)
-  sizing n = skipping (typed names inner d without_name >>= (λ t. take p.RightParen >> pure (size_type n t)))
+  sizing n = skipping (typed names inner d without_name >>= (λ t. take the_punct.RightParen >> pure (size_type n t)))

@@ -3,12 +3,12 @@ use Rattle.std.specs.Prelude.{ℕ, zero, suc}
 use Rattle.cc_grammar.specs.Names.{Names}
 use Rattle.cc_grammar.specs.Reading as spec
 use Rattle.cc_parse_expr.specs.declared.mode.Mode.{Mode}
-use Rattle.cc_parse_expr.specs.declared.mode.Mode.TheVariants as m
+use Rattle.cc_parse_expr.specs.declared.mode.Mode.TheVariants as the_mode
 
 abbrev pub mode_of : Mode → spec.Mode
-mode_of m.Named = spec.with_name
-mode_of m.Abstract = spec.without_name
-mode_of m.Either = spec.with_or_without
+mode_of the_mode.Named = spec.with_name
+mode_of the_mode.Abstract = spec.without_name
+mode_of the_mode.Either = spec.with_or_without
 
 -- the readers of what stands in a counted node, where that may be as deep as the number
 abbrev pub inner_at : Names → ℕ → spec.Inner

@@ -2,12 +2,12 @@
 use Rattle.std.specs.Prelude.{ℕ, ◌-◌, List, Result}
 use Rattle.std.specs.declared.alloc.Global.{Global}
 use denote.Ref.{Bor, MutBor}
-use Rattle.cc_tree.specs.declared.place.Spot.{Spot}
+use Rattle.cc_base.specs.declared.place.Spot.{Spot}
 use Rattle.cc_lex.specs.declared.token.Token.{Token}
-use Rattle.cc_syntax.specs.declared.expr.Expr.{Expr}
-use Rattle.cc_syntax.specs.declared.expr.Spec.{Spec}
-use Rattle.cc_syntax.specs.declared.expr.Declarator.{Declarator}
-use Rattle.cc_syntax.specs.Views.{view, view_declarator, specs_of}
+use Rattle.cc_tree.specs.declared.expr.Expr.{Expr}
+use Rattle.cc_tree.specs.declared.expr.Spec.{Spec}
+use Rattle.cc_tree.specs.declared.expr.Declarator.{Declarator}
+use Rattle.cc_tree.specs.Views.{view, view_declarator, specs_of}
 use Rattle.cc_grammar.specs.Names.{Names}
 use Rattle.cc_grammar.specs.Reading.{readers}
 use Rattle.cc_parse_tokens.specs.declared.fault.Fault.{Fault}

@@ -1,16 +1,16 @@
 -- Parts of the rules, which the code has as methods of their own.
 use Rattle.std.specs.Prelude.{ℕ, ◌||◌, false, List, length, Bool, Option, Some, None}
-use Rattle.cc_tree.specs.declared.place.Spot.{Spot}
-use Rattle.cc_lex.specs.declared.punct.Punct.TheVariants as p
-use Rattle.cc_syntax.specs.Trees.{Name, DeclTree, array, function, pointer, SpecTree, named, struct, enum, no_members, no_constants, MemberTree, ConstantTree}
-use Rattle.cc_syntax.specs.Views.{gathered_constants, gathered_members, gathered_types}
+use Rattle.cc_base.specs.declared.place.Spot.{Spot}
+use Rattle.cc_lex.specs.declared.punct.Punct.TheVariants as the_punct
+use Rattle.cc_tree.specs.Trees.{Name, DeclTree, array, function, pointer, SpecTree, named, struct, enum, no_members, no_constants, MemberTree, ConstantTree}
+use Rattle.cc_tree.specs.Views.{gathered_constants, gathered_members, gathered_types}
 use Rattle.cc_grammar.specs.Classes.{next_ident, next_is, spot, spec_word, spec_struct, spec_enum, spec_start}
 use Rattle.cc_grammar.specs.Names.{Names}
 use Rattle.cc_grammar.specs.Outcomes.{Parser, ◌>>=◌, ◌>>◌, ◌<$>◌, pure, refuse, take}
 use Rattle.cc_grammar.specs.Reading as grammar
 use Rattle.cc_grammar.specs.Reading.{Inner, Mode, where_next, placed, skipping, enclosed, enclosed_by, repeated, opening, array_length, parameters, written_only, consts, direct, suffixes, goes_on_members, member_line, member_list, one_constant, constant_list, untagged}
 use Rattle.cc_parse_tokens.specs.declared.class.SpecStart.{SpecStart}
-use Rattle.cc_parse_tokens.specs.declared.class.SpecStart.TheVariants as s
+use Rattle.cc_parse_tokens.specs.declared.class.SpecStart.TheVariants as the_spec_start
 
 -- a typedef name
 abbrev pub named_by : Option Name → Spot → Parser (SpecTree Spot)
@@ -37,7 +37,7 @@ module _ (names : Names) (inner : Inner) (d : ℕ) where
 
   -- a declarator where there is room for one
   abbrev pub some_declarator : Mode → Parser (DeclTree Spot)
-  some_declarator mode = where_next (next_is p.Star) (pointed mode) (direct names inner d mode >>= suffixes names inner d d)
+  some_declarator mode = where_next (next_is the_punct.Star) (pointed mode) (direct names inner d mode >>= suffixes names inner d d)
 
   -- ---- Specifiers
 
@@ -46,7 +46,7 @@ module _ (names : Names) (inner : Inner) (d : ℕ) where
   member_lines = repeated (goes_on_members names inner d) (member_line names inner d)
 
   abbrev pub member_braces : Parser (List (MemberTree Spot))
-  member_braces = take p.LeftBrace >> member_lines >>= (λ ms. take p.RightBrace >> pure ms)
+  member_braces = take the_punct.LeftBrace >> member_lines >>= (λ ms. take the_punct.RightBrace >> pure ms)
 
   abbrev pub constants : Parser (List (ConstantTree Spot) × Bool)
   constants = λ ts. enclosed_by (one_constant names inner d) (length ts) ts
@@ -56,18 +56,18 @@ module _ (names : Names) (inner : Inner) (d : ℕ) where
 
   -- a struct and an enumeration behind their tags
   abbrev pub struct_of : Spot → Option Name → Parser (SpecTree Spot)
-  struct_of n tag = where_next (λ ts. next_is p.LeftBrace ts || untagged names inner d tag) ((λ ms. struct n tag (gathered_members ms)) <$> member_list names inner d) (pure (struct n tag no_members))
+  struct_of n tag = where_next (λ ts. next_is the_punct.LeftBrace ts || untagged names inner d tag) ((λ ms. struct n tag (gathered_members ms)) <$> member_list names inner d) (pure (struct n tag no_members))
 
   abbrev pub enum_of : Spot → Option Name → Parser (SpecTree Spot)
-  enum_of n tag = where_next (λ ts. next_is p.LeftBrace ts || untagged names inner d tag) ((λ cs. enum n tag (gathered_constants cs.0) cs.1) <$> constant_list names inner d) (pure (enum n tag no_constants false))
+  enum_of n tag = where_next (λ ts. next_is the_punct.LeftBrace ts || untagged names inner d tag) ((λ cs. enum n tag (gathered_constants cs.0) cs.1) <$> constant_list names inner d) (pure (enum n tag no_constants false))
 
   -- a specifier, by how it begins
   abbrev pub spec_of_class : SpecStart → Spot → Parser (SpecTree Spot)
-  spec_of_class (s.Word w) n = grammar.spec_by names inner d (spec_word w) n
-  spec_of_class s.Named n = λ ts. named_by (next_ident ts) n ts
-  spec_of_class s.Struct n = grammar.spec_by names inner d spec_struct n
-  spec_of_class s.Enum n = grammar.spec_by names inner d spec_enum n
-  spec_of_class s.Nothing n = refuse
+  spec_of_class (the_spec_start.Word w) n = grammar.spec_by names inner d (spec_word w) n
+  spec_of_class the_spec_start.Named n = λ ts. named_by (next_ident ts) n ts
+  spec_of_class the_spec_start.Struct n = grammar.spec_by names inner d spec_struct n
+  spec_of_class the_spec_start.Enum n = grammar.spec_by names inner d spec_enum n
+  spec_of_class the_spec_start.Nothing n = refuse
 
   abbrev pub spec : Parser (SpecTree Spot)
   spec = λ ts. grammar.spec_by names inner d (spec_start names ts) (spot ts) ts

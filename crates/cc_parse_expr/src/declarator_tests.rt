@@ -3,8 +3,8 @@
 use crate::{Mode, declarator, specs};
 use cc_lex::{Token, TokenKind, lex};
 use cc_parse_tokens::{Cursor, Fault, TypedefNames};
-use cc_syntax_make::copied_text;
-use cc_tree::Bytes;
+use cc_tree_make::copied_text;
+use cc_base::Bytes;
 use sqlite_items::Items;
 use std::alloc::Global;
 use std::process::Abort;
@@ -60,7 +60,7 @@ const SPECIFIERS: [(&[u8], u32, End); 12] = [
 fn copied_kind(alloc: Global, kind: &TokenKind) -> Result<TokenKind, Fault> {
     Ok(match kind {
         TokenKind::Keyword(word) => TokenKind::Keyword(*word),
-        TokenKind::Punct(sign) => TokenKind::Punct(*sign),
+        TokenKind::Punct(punct) => TokenKind::Punct(*punct),
         TokenKind::Identifier(name) => TokenKind::Identifier(copied_text(alloc, name)?),
         TokenKind::Integer { value, kind } => TokenKind::Integer {
             value: *value,

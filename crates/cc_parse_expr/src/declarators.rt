@@ -3,8 +3,8 @@ ghost use Rattle.std.specs.Prelude.{◌≡◌, ◌<◌, ◌&&◌, nat_lt, Ok};
 ghost use Rattle.cc_grammar.specs.Classes.{next_ident};
 ghost use Rattle.cc_grammar.specs.Outlines as outline;
 ghost use Rattle.cc_grammar.specs.Reading as spec;
-ghost use Rattle.cc_syntax.specs.Depth.{declarator_depth};
-ghost use Rattle.cc_syntax.specs.Views.{view_declarator, option_of};
+ghost use Rattle.cc_tree.specs.Depth.{declarator_depth};
+ghost use Rattle.cc_tree.specs.Views.{view_declarator, option_of};
 ghost use Rattle.cc_parse_tokens.specs.Gives.{Gives};
 ghost use Rattle.cc_parse_expr.specs.Modes.{mode_of, inner_at};
 ghost use Rattle.cc_parse_expr.specs.Parts as part;
@@ -15,10 +15,10 @@ use crate::identifier::identifier;
 use crate::mode::Mode;
 use cc_lex::{Keyword, Punct};
 use cc_parse_tokens::{Cursor, Fault, TypedefNames};
-use cc_syntax::{Declarator, Expr, Spec};
-use cc_syntax_limits::declarator_fits;
-use cc_syntax_make::{array, function, grouped, pointer};
-use cc_tree::Spot;
+use cc_tree::{Declarator, Expr, Spec};
+use cc_tree_limits::declarator_fits;
+use cc_tree_make::{array, function, grouped, pointer};
+use cc_base::Spot;
 use sqlite_items::Items;
 use std::alloc::Global;
 
@@ -251,7 +251,7 @@ impl<
     {
         let mut count = 0;
         for _turn in 0..tokens.len() {
-            if !tokens.next_is_key(Keyword::Const) {
+            if !tokens.next_is_keyword(Keyword::Const) {
                 return count;
             }
             tokens.skip();

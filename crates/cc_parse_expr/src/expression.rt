@@ -2,7 +2,7 @@
 ghost use Rattle.std.specs.Prelude.{◌≡◌, ◌<◌};
 ghost use Rattle.cc_grammar.specs.Classes as class;
 ghost use Rattle.cc_grammar.specs.Reading as spec;
-ghost use Rattle.cc_syntax.specs.Views.{view};
+ghost use Rattle.cc_tree.specs.Views.{view};
 ghost use Rattle.cc_parse_tokens.specs.Gives.{Gives};
 ghost use Rattle.cc_parse_expr.specs.Modes.{inner_at};
 ghost use Rattle.cc_parse_expr.specs.Nests.{NestsExpr, NestsSpecs, NestsDeclarator};
@@ -11,9 +11,9 @@ use crate::grammar::Grammar;
 use crate::mode::Mode;
 use crate::shape::level;
 use cc_parse_tokens::{Cursor, Fault, TypedefNames, binds, left_level};
-use cc_syntax::{Declarator, Expr, Spec};
-use cc_syntax_limits::expr_fits;
-use cc_tree::Spot;
+use cc_tree::{Declarator, Expr, Spec};
+use cc_tree_limits::expr_fits;
+use cc_base::Spot;
 use sqlite_items::Items;
 use std::alloc::Global;
 

@@ -1,14 +1,14 @@
 // What stands inside of a rule.
 ghost use Rattle.std.specs.Prelude.{◌≡◌, ◌<◌};
-ghost use Rattle.cc_syntax.specs.Views.{view, view_declarator, specs_of};
+ghost use Rattle.cc_tree.specs.Views.{view, view_declarator, specs_of};
 ghost use Rattle.cc_parse_tokens.specs.Gives.{Gives};
 ghost use Rattle.cc_parse_expr.specs.Modes.{mode_of, inner_at};
 ghost use Rattle.cc_parse_expr.specs.Nests.{NestsExpr, NestsSpecs, NestsDeclarator};
 
 use crate::mode::Mode;
 use cc_parse_tokens::{Cursor, Fault, TypedefNames};
-use cc_syntax::{Declarator, Expr, Spec};
-use cc_tree::Spot;
+use cc_tree::{Declarator, Expr, Spec};
+use cc_base::Spot;
 use sqlite_items::Items;
 use std::alloc::Global;
 

@@ -2,7 +2,7 @@
 ghost use Rattle.std.specs.Prelude.{◌<◌, ◌≡◌};
 ghost use Rattle.cc_grammar.specs.Classes as class;
 ghost use Rattle.cc_grammar.specs.Reading as spec;
-ghost use Rattle.cc_syntax.specs.Views.{view, view_type};
+ghost use Rattle.cc_tree.specs.Views.{view, view_type};
 ghost use Rattle.cc_parse_tokens.specs.Classes.{integer_of, character_of};
 ghost use Rattle.cc_parse_tokens.specs.Gives.{Gives};
 ghost use Rattle.cc_parse_expr.specs.Branches as branch;
@@ -14,9 +14,9 @@ use crate::identifier::identifier;
 use crate::mode::Mode;
 use cc_lex::Punct;
 use cc_parse_tokens::{Cursor, Fault, Start, TypedefNames};
-use cc_syntax::{Declarator, Expr, Side, Spec, StepOp, TypeName, UnaryOp};
-use cc_syntax_make::{cast, paren, size_expr, size_type, step, unary};
-use cc_tree::{Bytes, List, Spot};
+use cc_tree::{Declarator, Expr, Side, Spec, StepOp, TypeName, UnaryOp};
+use cc_tree_make::{cast, paren, size_expr, size_type, step, unary};
+use cc_base::{Bytes, List, Spot};
 use sqlite_items::Items;
 use std::alloc::Global;
 

@@ -1,15 +1,15 @@
 // The readers, tied together.
 ghost use Rattle.std.specs.Prelude.{◌≡◌};
 ghost use Rattle.cc_grammar.specs.Reading as spec;
-ghost use Rattle.cc_syntax.specs.Views.{view, view_declarator, specs_of};
+ghost use Rattle.cc_tree.specs.Views.{view, view_declarator, specs_of};
 ghost use Rattle.cc_parse_tokens.specs.Gives.{Gives};
 ghost use Rattle.cc_parse_expr.specs.Modes.{mode_of};
 
 use crate::grammar::Grammar;
 use crate::mode::Mode;
 use cc_parse_tokens::{Cursor, Fault, TypedefNames};
-use cc_syntax::{Declarator, Expr, Spec};
-use cc_tree::Spot;
+use cc_tree::{Declarator, Expr, Spec};
+use cc_base::Spot;
 use sqlite_items::Items;
 use std::alloc::Global;
 

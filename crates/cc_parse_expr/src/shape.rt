@@ -2,11 +2,11 @@
 ghost use Rattle.std.specs.Prelude.{◌≡◌};
 ghost use Rattle.cc_grammar.specs.Levels as levels;
 ghost use Rattle.cc_grammar.specs.Outlines as outlines;
-ghost use Rattle.cc_syntax.specs.Views.{view};
+ghost use Rattle.cc_tree.specs.Views.{view};
 
 use cc_parse_tokens::binary_level;
-use cc_syntax::{Expr, Side};
-use cc_tree::Spot;
+use cc_tree::{Expr, Side};
+use cc_base::Spot;
 
 /// The level of an expression: the greater, the tighter it holds together (C17 6.5).
 pub fn level<N>(e: &Expr<N>) -> u8

@@ -1,7 +1,7 @@
 // Type names and parameters.
 ghost use Rattle.std.specs.Prelude.{◌<◌, map};
 ghost use Rattle.cc_grammar.specs.Reading as spec;
-ghost use Rattle.cc_syntax.specs.Views.{view_type};
+ghost use Rattle.cc_tree.specs.Views.{view_type};
 ghost use Rattle.cc_parse_tokens.specs.Gives.{Gives};
 ghost use Rattle.cc_parse_expr.specs.Modes.{mode_of, inner_at};
 ghost use Rattle.cc_parse_expr.specs.Nests.{NestsExpr, NestsSpecs, NestsDeclarator};
@@ -10,8 +10,8 @@ use crate::grammar::Grammar;
 use crate::mode::Mode;
 use cc_lex::Punct;
 use cc_parse_tokens::{Cursor, Fault, TypedefNames};
-use cc_syntax::{Declarator, Expr, Spec, TypeName};
-use cc_tree::Spot;
+use cc_tree::{Declarator, Expr, Spec, TypeName};
+use cc_base::Spot;
 use sqlite_items::Items;
 use std::alloc::Global;
 

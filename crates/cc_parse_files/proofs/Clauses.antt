@@ -1,10 +1,10 @@
--- A clause with the sign behind it is read in one, and so `for` and `return` are those of the grammar.
+-- A clause with the punctuator behind it is read in one, and so `for` and `return` are those of the grammar.
 use Rattle.std.proofs.Common.{◌≡◌, refl, ℕ, List, Option, Ok, Err, sym, ◌∙◌}
-use Rattle.cc_tree.specs.declared.place.Spot.{Spot}
+use Rattle.cc_base.specs.declared.place.Spot.{Spot}
 use Rattle.cc_lex.specs.declared.token.Token.{Token}
 use Rattle.cc_lex.specs.declared.punct.Punct.{Punct}
-use Rattle.cc_lex.specs.declared.punct.Punct.TheVariants as p
-use Rattle.cc_syntax.specs.Trees.{ExprTree, StartTree, return}
+use Rattle.cc_lex.specs.declared.punct.Punct.TheVariants as the_punct
+use Rattle.cc_tree.specs.Trees.{ExprTree, StartTree, return}
 use Rattle.cc_grammar.specs.Classes.{next_is, skip}
 use Rattle.cc_grammar.specs.Names.{Names, after_start}
 use Rattle.cc_grammar.specs.Outcomes.{Outcome, Parser, and_then, ◌>>=◌, ◌>>◌, pure, take}
@@ -28,24 +28,24 @@ module _ (d : ℕ) (names : Names) (n : Spot) where
   clause end = clause_until (stmt d) d names (next_is end)
 
   second : (start : StartTree Spot) (test : Option (ExprTree Spot)) (o : Outcome (Unit {0}))
-      → and_then (and_then o (λ _. clause_until (stmt d) d names (next_is p.RightParen))) (λ each. take p.RightParen >> for_body d names n start test each) ≡ and_then o (λ _. for_each d names n start test)
-  second start test (Ok y) = sym (sign_behind p.RightParen (clause_until (stmt d) d names (next_is p.RightParen) y.1) (for_body d names n start test))
+      → and_then (and_then o (λ _. clause_until (stmt d) d names (next_is the_punct.RightParen))) (λ each. take the_punct.RightParen >> for_body d names n start test each) ≡ and_then o (λ _. for_each d names n start test)
+  second start test (Ok y) = sym (sign_behind the_punct.RightParen (clause_until (stmt d) d names (next_is the_punct.RightParen) y.1) (for_body d names n start test))
   second start test (Err r) = refl
 
 -- `for` behind its first clause
 behind_is : (d : ℕ) (names : Names) (n : Spot) (start : StartTree Spot) (ts : List Token) → for_behind (stmt d) d names n start ts ≡ for_test d (after_start start names) n start ts
 behind_is d names n start ts =
     let after = after_start start names in
-    bind_same (clause_until (stmt d) d after (next_is p.Semicolon) ts)
-    (λ test. take p.Semicolon >> clause_until (stmt d) d after (next_is p.RightParen) >>= (λ each. take p.RightParen >> for_body d after n start test each))
-    (λ test. take p.Semicolon >> for_each d after n start test)
-    (λ test us. second d after n start test (take p.Semicolon us))
-    ∙ sym (sign_behind p.Semicolon (clause_until (stmt d) d after (next_is p.Semicolon) ts) (for_each d after n start))
+    bind_same (clause_until (stmt d) d after (next_is the_punct.Semicolon) ts)
+    (λ test. take the_punct.Semicolon >> clause_until (stmt d) d after (next_is the_punct.RightParen) >>= (λ each. take the_punct.RightParen >> for_body d after n start test each))
+    (λ test. take the_punct.Semicolon >> for_each d after n start test)
+    (λ test us. second d after n start test (take the_punct.Semicolon us))
+    ∙ sym (sign_behind the_punct.Semicolon (clause_until (stmt d) d after (next_is the_punct.Semicolon) ts) (for_each d after n start))
 
-pub for_is : (d : ℕ) (names : Names) (n : Spot) (ts : List Token) → (take p.LeftParen >> start_clause (stmt d) d names >>= for_behind (stmt d) d names n) (skip ts) ≡ for_at d names n ts
+pub for_is : (d : ℕ) (names : Names) (n : Spot) (ts : List Token) → (take the_punct.LeftParen >> start_clause (stmt d) d names >>= for_behind (stmt d) d names n) (skip ts) ≡ for_at d names n ts
 for_is d names n ts =
-    bind_same ((take p.LeftParen >> start_clause (stmt d) d names) (skip ts)) (for_behind (stmt d) d names n) (λ start. for_test d (after_start start names) n start) (λ start us. behind_is d names n start us)
+    bind_same ((take the_punct.LeftParen >> start_clause (stmt d) d names) (skip ts)) (for_behind (stmt d) d names n) (λ start. for_test d (after_start start names) n start) (λ start us. behind_is d names n start us)
 
 pub return_is : (d : ℕ) (names : Names) (n : Spot) (ts : List Token)
-    → (clause_until (stmt d) d names (next_is p.Semicolon) >>= (λ e. take p.Semicolon >> pure (return n e))) (skip ts) ≡ return_at d names n ts
-return_is d names n ts = sym (sign_behind p.Semicolon (clause_until (stmt d) d names (next_is p.Semicolon) (skip ts)) (λ e. pure (return n e)))
+    → (clause_until (stmt d) d names (next_is the_punct.Semicolon) >>= (λ e. take the_punct.Semicolon >> pure (return n e))) (skip ts) ≡ return_at d names n ts
+return_is d names n ts = sym (sign_behind the_punct.Semicolon (clause_until (stmt d) d names (next_is the_punct.Semicolon) (skip ts)) (λ e. pure (return n e)))

@@ -1,9 +1,9 @@
 -- What stands in a file, turn by turn, is what the grammar's reader gives.
 use Rattle.std.proofs.Common.{◌≡◌, refl, ℕ, zero, suc, Bool, true, false, List, [], ◌∷◌, ◌++◌, length, Ok, Err, sym, ap, ◌∙◌}
 use Rattle.std.proofs.lemmas.List.{append-nil}
-use Rattle.cc_tree.specs.declared.place.Spot.{Spot}
+use Rattle.cc_base.specs.declared.place.Spot.{Spot}
 use Rattle.cc_lex.specs.declared.token.Token.{Token}
-use Rattle.cc_syntax.specs.Trees.{ExternalTree}
+use Rattle.cc_tree.specs.Trees.{ExternalTree}
 use Rattle.cc_grammar.specs.Names.{Names, after_external}
 use Rattle.cc_grammar.specs.Outcomes.{Outcome, and_then, ◌>>=◌, pure, ◌<$>◌}
 use Rattle.cc_grammar.specs.Reading.{branch, ended, external, externals_by, reading}

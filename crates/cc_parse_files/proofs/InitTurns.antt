@@ -1,9 +1,9 @@
 -- The declarators of a declaration turn by turn are those of the grammar, and so are the names after them.
 use Rattle.std.proofs.Common.{◌≡◌, refl, ℕ, zero, suc, Bool, true, false, List, [], ◌∷◌, ◌++◌, length, Option, Ok, Err, sym, ◌∙◌}
-use Rattle.cc_tree.specs.declared.place.Spot.{Spot}
+use Rattle.cc_base.specs.declared.place.Spot.{Spot}
 use Rattle.cc_lex.specs.declared.token.Token.{Token}
-use Rattle.cc_lex.specs.declared.punct.Punct.TheVariants as p
-use Rattle.cc_syntax.specs.Trees.{DeclTree, InitTree, init, ValueTree}
+use Rattle.cc_lex.specs.declared.punct.Punct.TheVariants as the_punct
+use Rattle.cc_tree.specs.Trees.{DeclTree, InitTree, init, ValueTree}
 use Rattle.cc_grammar.specs.Classes.{next_is, skip}
 use Rattle.cc_grammar.specs.Names.{Names, after_declarator, after_inits}
 use Rattle.cc_grammar.specs.Outcomes.{Outcome, and_then, ◌>>=◌, pure, ◌<$>◌}
@@ -26,9 +26,9 @@ behind_value d typedef turns again names i found us true = next_declarator d typ
 behind_value d typedef turns again names i found us false = refl
 
 with_value : (d : ℕ) (typedef : Bool) (turns : ℕ) → Same d typedef turns → (names : Names) (e : DeclTree Spot) (found : List (InitTree Spot)) (o : Outcome (Option (ValueTree Spot)))
-    → and_then o (λ v. where_next (next_is p.Comma) (skipping ((readers names d).declarator with_name >>= (λ f. inits_from d typedef turns names f (found ++ init e v ∷ [])))) (pure (found ++ init e v ∷ [])))
-    ≡ before found (and_then o (λ v. where_next (next_is p.Comma) (skipping ((readers names d).declarator with_name >>= (λ f. (λ is. init e v ∷ is) <$> inits_behind d typedef turns names f))) (pure (init e v ∷ []))))
-with_value d typedef turns again names e found (Ok y) = behind_value d typedef turns again names (init e y.0) found y.1 (next_is p.Comma y.1)
+    → and_then o (λ v. where_next (next_is the_punct.Comma) (skipping ((readers names d).declarator with_name >>= (λ f. inits_from d typedef turns names f (found ++ init e v ∷ [])))) (pure (found ++ init e v ∷ [])))
+    ≡ before found (and_then o (λ v. where_next (next_is the_punct.Comma) (skipping ((readers names d).declarator with_name >>= (λ f. (λ is. init e v ∷ is) <$> inits_behind d typedef turns names f))) (pure (init e v ∷ []))))
+with_value d typedef turns again names e found (Ok y) = behind_value d typedef turns again names (init e y.0) found y.1 (next_is the_punct.Comma y.1)
 with_value d typedef turns again names e found (Err r) = refl
 
 pub inits_turns : (d : ℕ) (typedef : Bool) (turns : ℕ) → Same d typedef turns
@@ -52,16 +52,16 @@ module _ (d : ℕ) (typedef : Bool) (turns : ℕ) (names after : Names) (e : Dec
   unfolding inits_from
   value_fails r g = rw (sym is, g) refl
 
-  pub last_one : (v : Option (ValueTree Spot)) (us : List Token) → given after d ts ≡ Ok (v, us) → next_is p.Comma us ≡ false → inits_from d typedef (suc turns) names e found ts ≡ Ok (found ++ init e v ∷ [], us)
+  pub last_one : (v : Option (ValueTree Spot)) (us : List Token) → given after d ts ≡ Ok (v, us) → next_is the_punct.Comma us ≡ false → inits_from d typedef (suc turns) names e found ts ≡ Ok (found ++ init e v ∷ [], us)
   unfolding inits_from
   last_one v us g n = rw (sym is, g, n) refl
 
-  pub next_fails : (v : Option (ValueTree Spot)) (us r : List Token) → given after d ts ≡ Ok (v, us) → next_is p.Comma us ≡ true → (readers after d).declarator with_name (skip us) ≡ Err r
+  pub next_fails : (v : Option (ValueTree Spot)) (us r : List Token) → given after d ts ≡ Ok (v, us) → next_is the_punct.Comma us ≡ true → (readers after d).declarator with_name (skip us) ≡ Err r
       → inits_from d typedef (suc turns) names e found ts ≡ Err r
   unfolding inits_from
   next_fails v us r g n f = rw (sym is, g, n, f) refl
 
-  pub goes_on : (v : Option (ValueTree Spot)) (us ws : List Token) (f : DeclTree Spot) → given after d ts ≡ Ok (v, us) → next_is p.Comma us ≡ true → (readers after d).declarator with_name (skip us) ≡ Ok (f, ws)
+  pub goes_on : (v : Option (ValueTree Spot)) (us ws : List Token) (f : DeclTree Spot) → given after d ts ≡ Ok (v, us) → next_is the_punct.Comma us ≡ true → (readers after d).declarator with_name (skip us) ≡ Ok (f, ws)
       → inits_from d typedef (suc turns) names e found ts ≡ inits_from d typedef turns after f (found ++ init e v ∷ []) ws
   unfolding inits_from
   goes_on v us ws f g n r = rw (sym is, g, n, r) refl

@@ -1,11 +1,11 @@
 -- The items of a block turn by turn are those of the grammar, and so are the names after them.
 use Rattle.std.proofs.Common.{◌≡◌, refl, ℕ, zero, suc, Bool, true, false, List, [], ◌∷◌, ◌++◌, length, Ok, Err, sym, ap, ◌∙◌}
 use Rattle.std.proofs.lemmas.List.{append-nil}
-use Rattle.cc_tree.specs.declared.place.Spot.{Spot}
+use Rattle.cc_base.specs.declared.place.Spot.{Spot}
 use Rattle.cc_lex.specs.declared.token.Token.{Token}
-use Rattle.cc_lex.specs.declared.punct.Punct.TheVariants as p
-use Rattle.cc_syntax.specs.Trees.{StmtTree, ItemTree}
-use Rattle.cc_syntax.specs.Views.{gathered_items}
+use Rattle.cc_lex.specs.declared.punct.Punct.TheVariants as the_punct
+use Rattle.cc_tree.specs.Trees.{StmtTree, ItemTree}
+use Rattle.cc_tree.specs.Views.{gathered_items}
 use Rattle.cc_grammar.specs.Classes.{next_is, skip}
 use Rattle.cc_grammar.specs.Names.{Names, after_item, after_items}
 use Rattle.cc_grammar.specs.Outcomes.{Outcome, Parser, and_then, ◌>>=◌, pure, ◌<$>◌}
@@ -31,7 +31,7 @@ module _ (inner : Names → Parser (StmtTree Spot)) (d : ℕ) where
   items_turns : (turns : ℕ) → Same turns
   unfolding items_from
   items_turns zero names found ts = refl
-  items_turns (suc turns) names found ts = one_turn turns (items_turns turns) names found ts (next_is p.RightBrace ts)
+  items_turns (suc turns) names found ts = one_turn turns (items_turns turns) names found ts (next_is the_punct.RightBrace ts)
 
   pub items_is : (names : Names) (ts : List Token) → items inner d names ts ≡ items_from inner d (suc (length ts)) names [] ts
   items_is names ts = sym (nothing_before (items_by inner d (suc (length ts)) names ts)) ∙ sym (items_turns (suc (length ts)) names [] ts)
@@ -44,14 +44,14 @@ after_push (j ∷ is) i names = after_push is i (after_item j names)
 -- ---- One turn
 
 module _ (inner : Names → Parser (StmtTree Spot)) (d turns : ℕ) (names : Names) (found : List (ItemTree Spot)) (ts : List Token) where
-  pub closes : next_is p.RightBrace ts ≡ true → items_from inner d (suc turns) names found ts ≡ Ok (found, skip ts)
+  pub closes : next_is the_punct.RightBrace ts ≡ true → items_from inner d (suc turns) names found ts ≡ Ok (found, skip ts)
   unfolding items_from
   closes n = rw n refl
 
-  pub item_fails : (r : List Token) → next_is p.RightBrace ts ≡ false → item inner d names ts ≡ Err r → items_from inner d (suc turns) names found ts ≡ Err r
+  pub item_fails : (r : List Token) → next_is the_punct.RightBrace ts ≡ false → item inner d names ts ≡ Err r → items_from inner d (suc turns) names found ts ≡ Err r
   unfolding items_from
   item_fails r n f = rw (n, f) refl
 
-  pub goes_on : (i : ItemTree Spot) (us : List Token) → next_is p.RightBrace ts ≡ false → item inner d names ts ≡ Ok (i, us) → items_from inner d (suc turns) names found ts ≡ items_from inner d turns (after_item i names) (found ++ i ∷ []) us
+  pub goes_on : (i : ItemTree Spot) (us : List Token) → next_is the_punct.RightBrace ts ≡ false → item inner d names ts ≡ Ok (i, us) → items_from inner d (suc turns) names found ts ≡ items_from inner d turns (after_item i names) (found ++ i ∷ []) us
   unfolding items_from
   goes_on i us n r = rw (n, r) refl

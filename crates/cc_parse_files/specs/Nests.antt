@@ -3,11 +3,11 @@
 use Rattle.std.specs.Prelude.{◌≡◌, ℕ, List, Result, IfOk}
 use Rattle.std.specs.declared.alloc.Global.{Global}
 use denote.Ref.{MutBor}
-use Rattle.cc_tree.specs.declared.place.Spot.{Spot}
+use Rattle.cc_base.specs.declared.place.Spot.{Spot}
 use Rattle.cc_lex.specs.declared.token.Token.{Token}
-use Rattle.cc_syntax.specs.declared.stmt.Stmt.{Stmt}
-use Rattle.cc_syntax.specs.declared.stmt.Block.{Block}
-use Rattle.cc_syntax.specs.Views.{view_stmt, view_block}
+use Rattle.cc_tree.specs.declared.stmt.Stmt.{Stmt}
+use Rattle.cc_tree.specs.declared.stmt.Block.{Block}
+use Rattle.cc_tree.specs.Views.{view_stmt, view_block}
 use Rattle.cc_grammar.specs.Names.{Names, after_stmt, after_block}
 use Rattle.cc_grammar.specs.Reading.{stmt, body}
 use Rattle.cc_parse_tokens.specs.declared.fault.Fault.{Fault}

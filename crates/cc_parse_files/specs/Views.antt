@@ -1,8 +1,8 @@
 -- What the code's values stand for.
 use Rattle.std.specs.Prelude.{Bool, List, map}
-use Rattle.cc_tree.specs.declared.place.Spot.{Spot}
-use Rattle.cc_syntax.specs.Trees.{ValueTree}
-use Rattle.cc_syntax.specs.Views.{view_value}
+use Rattle.cc_base.specs.declared.place.Spot.{Spot}
+use Rattle.cc_tree.specs.Trees.{ValueTree}
+use Rattle.cc_tree.specs.Views.{view_value}
 use Rattle.cc_parse_files.specs.declared.initialiser.Braced.{Braced}
 
 abbrev pub braced : Braced → List (ValueTree Spot) × Bool

@@ -3,7 +3,7 @@ ghost use Rattle.std.specs.Prelude.{◌≡◌, IfOk, map};
 ghost use Rattle.cc_parse_files.specs.Parts as parts;
 ghost use Rattle.cc_grammar.specs.Names as typedefs;
 ghost use Rattle.cc_grammar.specs.Reading as spec;
-ghost use Rattle.cc_syntax.specs.Views.{view_stmt, view_block, view_item, items_of};
+ghost use Rattle.cc_tree.specs.Views.{view_stmt, view_block, view_item, items_of};
 ghost use Rattle.cc_parse_tokens.specs.Gives.{Gives};
 ghost use Rattle.cc_parse_files.specs.Nests.{NestsStmt};
 
@@ -12,8 +12,8 @@ use crate::statement::Statements;
 use cc_lex::Punct;
 use cc_parse_expr::expr;
 use cc_parse_tokens::{Cursor, Fault, StmtStart, TypedefNames};
-use cc_syntax::{Block, Item, Stmt};
-use cc_tree::Spot;
+use cc_tree::{Block, Item, Stmt};
+use cc_base::Spot;
 use sqlite_items::Items;
 use std::alloc::Global;
 

@@ -3,7 +3,7 @@ ghost use Rattle.std.specs.Prelude.{◌≡◌, IfOk};
 ghost use Rattle.cc_parse_files.specs.Parts as parts;
 ghost use Rattle.cc_grammar.specs.Names as typedefs;
 ghost use Rattle.cc_grammar.specs.Reading as spec;
-ghost use Rattle.cc_syntax.specs.Views.{view, view_stmt, view_block};
+ghost use Rattle.cc_tree.specs.Views.{view, view_stmt, view_block};
 ghost use Rattle.cc_parse_tokens.specs.Gives.{Gives};
 ghost use Rattle.cc_parse_files.specs.Nests.{NestsStmt, NestsBlock};
 ghost use Rattle.cc_grammar.specs.Names.{Names};
@@ -11,8 +11,8 @@ ghost use Rattle.cc_grammar.specs.Names.{Names};
 use crate::statement::Statements;
 use cc_lex::{Keyword, Punct};
 use cc_parse_tokens::{Cursor, Fault, TypedefNames};
-use cc_syntax::{Block, Expr, Stmt};
-use cc_tree::Spot;
+use cc_tree::{Block, Expr, Stmt};
+use cc_base::Spot;
 use sqlite_items::Boxed;
 use std::alloc::Global;
 
@@ -63,7 +63,7 @@ impl<
         ensures after { IfOk result (λ s. names.new ≡ typedefs.after_stmt (view_stmt s) names.old) }
     {
         let yes = self.boxed(tokens, names)?;
-        if tokens.next_is_key(Keyword::Else) {
+        if tokens.next_is_keyword(Keyword::Else) {
             tokens.skip();
             self.with_else(tokens, names, spot, test, yes)
         } else {

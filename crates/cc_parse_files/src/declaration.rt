@@ -2,7 +2,7 @@
 ghost use Rattle.std.specs.Prelude.{◌≡◌, map, option_map, IfOk, OnOk};
 ghost use Rattle.cc_grammar.specs.Reading as spec;
 ghost use Rattle.cc_grammar.specs.Names as typedefs;
-ghost use Rattle.cc_syntax.specs.Views.{view_value, view_init, view_declarator, view_declaration, specs_of};
+ghost use Rattle.cc_tree.specs.Views.{view_value, view_init, view_declarator, view_declaration, specs_of};
 ghost use Rattle.cc_parse_tokens.specs.Gives.{Gives};
 ghost use Rattle.cc_parse_files.specs.Parts as parts;
 
@@ -10,8 +10,8 @@ use crate::initialiser::value;
 use cc_lex::Punct;
 use cc_parse_expr::{Mode, declarator, specs};
 use cc_parse_tokens::{Cursor, Fault, TypedefNames};
-use cc_syntax::{Declaration, Declarator, Init, Spec, SpecWord, Value};
-use cc_tree::{Memory, Spot, Text};
+use cc_tree::{Declaration, Declarator, Init, Spec, SpecWord, Value};
+use cc_base::{Memory, Spot, Text};
 use sqlite_items::Items;
 use std::alloc::Global;
 

@@ -2,7 +2,7 @@
 ghost use Rattle.std.specs.Prelude.{◌≡◌, suc, map, length, IfOk};
 ghost use Rattle.cc_grammar.specs.Reading as spec;
 ghost use Rattle.cc_grammar.specs.Names as typedefs;
-ghost use Rattle.cc_syntax.specs.Views.{view_declarator, view_external, view_file, specs_of};
+ghost use Rattle.cc_tree.specs.Views.{view_declarator, view_external, view_file, specs_of};
 ghost use Rattle.cc_parse_tokens.specs.Gives.{Gives};
 ghost use Rattle.cc_parse_files.specs.Parts as parts;
 
@@ -11,8 +11,8 @@ use crate::statement::body;
 use cc_lex::Punct;
 use cc_parse_expr::{Mode, declarator, specs, spot_or};
 use cc_parse_tokens::{Cursor, Fault, TypedefNames};
-use cc_syntax::{Declaration, Declarator, External, FileTree, Function, Spec};
-use cc_tree::Spot;
+use cc_tree::{Declaration, Declarator, External, FileTree, Function, Spec};
+use cc_base::Spot;
 use sqlite_items::Items;
 use std::alloc::Global;
 

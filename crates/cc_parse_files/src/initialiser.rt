@@ -1,7 +1,7 @@
 // Initialisers (C17 6.7.9).
 ghost use Rattle.std.specs.Prelude.{◌≡◌, length};
 ghost use Rattle.cc_grammar.specs.Reading as spec;
-ghost use Rattle.cc_syntax.specs.Views.{view, view_value};
+ghost use Rattle.cc_tree.specs.Views.{view, view_value};
 ghost use Rattle.cc_parse_tokens.specs.Gives.{Gives};
 ghost use Rattle.cc_parse_files.specs.Views.{braced};
 
@@ -9,8 +9,8 @@ use crate::begin::begins_expression;
 use cc_lex::Punct;
 use cc_parse_expr::expr;
 use cc_parse_tokens::{Cursor, Fault, TypedefNames};
-use cc_syntax::Value;
-use cc_tree::Spot;
+use cc_tree::Value;
+use cc_base::Spot;
 use sqlite_items::Items;
 use std::alloc::Global;
 

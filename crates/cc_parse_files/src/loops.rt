@@ -3,7 +3,7 @@ ghost use Rattle.std.specs.Prelude.{◌≡◌, IfOk, option_map};
 ghost use Rattle.cc_parse_files.specs.Parts as parts;
 ghost use Rattle.cc_grammar.specs.Names as typedefs;
 ghost use Rattle.cc_grammar.specs.Reading as spec;
-ghost use Rattle.cc_syntax.specs.Views.{view, view_stmt, view_start};
+ghost use Rattle.cc_tree.specs.Views.{view, view_stmt, view_start};
 ghost use Rattle.cc_parse_tokens.specs.Gives.{Gives};
 ghost use Rattle.cc_parse_files.specs.Nests.{NestsStmt};
 ghost use Rattle.cc_grammar.specs.Names.{Names};
@@ -13,8 +13,8 @@ use crate::statement::Statements;
 use cc_lex::{Keyword, Punct};
 use cc_parse_expr::expr;
 use cc_parse_tokens::{Cursor, Fault, TypedefNames};
-use cc_syntax::{Block, Expr, ForStart, Stmt};
-use cc_tree::Spot;
+use cc_tree::{Block, Expr, ForStart, Stmt};
+use cc_base::Spot;
 use sqlite_items::Boxed;
 use std::alloc::Global;
 
@@ -66,7 +66,7 @@ impl<
         ensures gives { Gives view_stmt (parts.do_behind self.now.depth names.now spot (view_stmt body) tokens.old) result tokens.new }
         ensures same { IfOk result (λ s. (before : Names) → typedefs.after_stmt (view_stmt s) before ≡ typedefs.after_stmt (view_stmt body) before) }
     {
-        tokens.take_key(Keyword::While)?;
+        tokens.take_keyword(Keyword::While)?;
         let test = self.condition(tokens, names)?;
         tokens.take(Punct::Semicolon)?;
         Ok(Stmt::Do(spot, body, test))

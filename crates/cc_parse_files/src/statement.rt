@@ -3,7 +3,7 @@ ghost use Rattle.std.specs.Prelude.{◌≡◌, IfOk, option_map};
 ghost use Rattle.cc_parse_files.specs.Parts as parts;
 ghost use Rattle.cc_grammar.specs.Names as typedefs;
 ghost use Rattle.cc_grammar.specs.Reading as spec;
-ghost use Rattle.cc_syntax.specs.Views.{view, view_stmt, view_block};
+ghost use Rattle.cc_tree.specs.Views.{view, view_stmt, view_block};
 ghost use Rattle.cc_parse_tokens.specs.Gives.{Gives};
 ghost use Rattle.cc_parse_files.specs.Nests.{NestsStmt, NestsBlock};
 ghost use Rattle.cc_grammar.specs.Classes as grammar;
@@ -12,8 +12,8 @@ use crate::begin::begins_statement;
 use cc_lex::Punct;
 use cc_parse_expr::expr;
 use cc_parse_tokens::{Cursor, Fault, StmtStart, TypedefNames};
-use cc_syntax::{Block, Expr, Stmt};
-use cc_tree::Spot;
+use cc_tree::{Block, Expr, Stmt};
+use cc_base::Spot;
 use std::alloc::Global;
 
 /// The rules of statements, where statements and blocks inside are no deeper than `depth`, over their readers.
@@ -56,7 +56,7 @@ impl<
         Ok(test)
     }
 
-    /// A clause of a `for` or an expression to return, up to where the sign stands; it may be missing.
+    /// A clause of a `for` or an expression to return, up to where the punctuator stands; it may be missing.
     pub fn clause(
         &self,
         tokens: &mut Cursor<'_>,
@@ -72,7 +72,7 @@ impl<
         Ok(Some(found))
     }
 
-    /// The same with the sign, which is taken.
+    /// A clause with the punctuator behind it, which is taken too.
     pub fn ended_clause(
         &self,
         tokens: &mut Cursor<'_>,

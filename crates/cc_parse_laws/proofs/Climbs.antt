@@ -2,13 +2,13 @@
 use Rattle.std.proofs.Common.{◌≡◌, ◌≤◌, ◌<◌, ◌+◌, refl, ℕ, zero, suc, true, false, List, Ok, arith, ap, ◌∙◌}
 use Rattle.std.specs.Prelude.{◌==◌}
 use Rattle.std.proofs.lemmas.Bool.{lt-ltb, le-leb, lt-leb, ne_eqb}
-use Rattle.cc_tree.specs.declared.place.Spot.{Spot}
+use Rattle.cc_base.specs.declared.place.Spot.{Spot}
 use Rattle.cc_lex.specs.declared.token.Token.{Token}
-use Rattle.cc_syntax.specs.Trees.{ExprTree}
-use Rattle.cc_syntax.specs.Depth.{expr_depth}
+use Rattle.cc_tree.specs.Trees.{ExprTree}
+use Rattle.cc_tree.specs.Depth.{expr_depth}
 use Rattle.cc_grammar.specs.Levels.{level}
 use Rattle.cc_grammar.specs.Names.{Names}
-use Rattle.cc_grammar.specs.Outlines as o
+use Rattle.cc_grammar.specs.Outlines as outlines
 use Rattle.cc_grammar.specs.Classes.{skip, spot, start, tail, Tail, binds, left_level}
 use Rattle.cc_grammar.specs.Outcomes.{Outcome, Parser, and_then, pure, refuse}
 use Rattle.cc_grammar.specs.Reading.{Inner, prefix, climb, go_on, goes_on, expression}
@@ -81,9 +81,9 @@ module _ (names : Names) (inner : Inner) (d : ℕ) where
 
   -- Reading what the tree is read of comes to the tree, whatever follows that binds less.
   abbrev pub IsRead : ExprTree Spot → Type 0
-  IsRead e = (least : ℕ) (ts r : List Token) → least ≤ level e → Reads (o.expr names e) d ts r → Ends (edge e) r → Climbs least ts e r
+  IsRead e = (least : ℕ) (ts r : List Token) → least ≤ level e → Reads (outlines.expr names e) d ts r → Ends (edge e) r → Climbs least ts e r
 
 -- a left operand is less deep
 pub left_depth : (names : Names) (e : ExprTree Spot) (d : ℕ) (ts r : List Token) → ReadsExpr names d e ts r → expr_depth e < suc d
 left_depth names e zero ts r y = absurd y
-left_depth names e (suc d) ts r y = omega (arith, depths.expr_depth names e, reads_depth (o.expr names e) d ts r y)
+left_depth names e (suc d) ts r y = omega (arith, depths.expr_depth names e, reads_depth (outlines.expr names e) d ts r y)

@@ -1,8 +1,8 @@
 -- Expressions, specifiers and declarators of each depth are read back.
 use Rattle.std.proofs.Common.{◌≡◌, ℕ, zero, suc, List, Ok, ◌∙◌}
-use Rattle.cc_tree.specs.declared.place.Spot.{Spot}
+use Rattle.cc_base.specs.declared.place.Spot.{Spot}
 use Rattle.cc_lex.specs.declared.token.Token.{Token}
-use Rattle.cc_syntax.specs.Trees.{DeclTree, declared, nameless, pointer, array, function, grouped}
+use Rattle.cc_tree.specs.Trees.{DeclTree, declared, nameless, pointer, array, function, grouped}
 use Rattle.cc_grammar.specs.Names.{Names}
 use Rattle.cc_grammar.specs.Outcomes.{pure, refuse}
 use Rattle.cc_grammar.specs.Reading.{Inner, no_inner, opened, readers, declarator, Mode, wants_name}

@@ -1,16 +1,16 @@
 -- What may follow an expression.
 use Rattle.std.proofs.Common.{◌≤◌, ◌<◌, ◌+◌, ℕ, true, List, [], ◌∷◌, length, arith}
-use Rattle.cc_tree.specs.declared.place.Spot.{Spot}
+use Rattle.cc_base.specs.declared.place.Spot.{Spot}
 use Rattle.cc_arith.specs.declared.binary_operator.IntOp.{IntOp}
 use Rattle.cc_arith.specs.declared.binary_operator.IntOp.TheVariants as int
 use Rattle.cc_lex.specs.declared.token.Token.{Token}
-use Rattle.cc_syntax.specs.declared.operator.BinaryOp.{BinaryOp}
-use Rattle.cc_syntax.specs.declared.operator.BinaryOp.TheVariants as b
-use Rattle.cc_syntax.specs.declared.operator.Side.TheVariants as side
-use Rattle.cc_syntax.specs.Trees.{ExprTree, name, integer, character, string, paren, unary, binary, assign, step, choice, comma, call, member, arrow, index, cast, size_expr, size_type}
+use Rattle.cc_tree.specs.declared.operator.BinaryOp.{BinaryOp}
+use Rattle.cc_tree.specs.declared.operator.BinaryOp.TheVariants as the_binary
+use Rattle.cc_tree.specs.declared.operator.Side.TheVariants as side
+use Rattle.cc_tree.specs.Trees.{ExprTree, name, integer, character, string, paren, unary, binary, assign, step, choice, comma, call, member, arrow, index, cast, size_expr, size_type}
 use Rattle.cc_grammar.specs.Levels.{level, binary_level, int_level}
 use Rattle.cc_grammar.specs.Names.{Names}
-use Rattle.cc_grammar.specs.Outlines as o
+use Rattle.cc_grammar.specs.Outlines as outlines
 use Rattle.cc_grammar.specs.Classes.{Tail, goes_binary, goes_assign, goes_question, goes_comma, goes_call, goes_index, goes_dot, goes_arrow, goes_step, ends_here, tail, binds}
 use Rattle.cc_parse_laws.proofs.Spans.{Reads}
 use Rattle.cc_parse_laws.proofs.Steps.{reads_length}
@@ -58,9 +58,9 @@ int_least int.Div = omega arith
 int_least int.Rem = omega arith
 
 pub op_least : (op : BinaryOp) → 4 ≤ binary_level op
-op_least b.OrOr = omega arith
-op_least b.AndAnd = omega arith
-op_least (b.Int op) = int_least op
+op_least the_binary.OrOr = omega arith
+op_least the_binary.AndAnd = omega arith
+op_least (the_binary.Int op) = int_least op
 
 -- an operator of a level up to 13 may follow what is of that level or above
 pub edge_above : (n : ℕ) (e : ExprTree Spot) → 4 ≤ n → n ≤ 13 → n ≤ level e → n < edge e
@@ -147,27 +147,27 @@ pub ends_prefix : (r : List Token) → Ends 16 r → Ends 14 r
 ends_prefix r e = record { looser = no_prefix (tail r) e.looser; no_literal = e.no_literal }
 
 -- An expression has a token.
-pub expr_shorter : (names : Names) (e : ExprTree Spot) (d : ℕ) (ts r : List Token) → Reads (o.expr names e) d ts r → length r < length ts
-expr_shorter names (name n x) d ts r y = omega (arith, reads_length (o.expr names (name n x)) d ts r y)
-expr_shorter names (integer n v c) d ts r y = omega (arith, reads_length (o.expr names (integer n v c)) d ts r y)
-expr_shorter names (character n v) d ts r y = omega (arith, reads_length (o.expr names (character n v)) d ts r y)
+pub expr_shorter : (names : Names) (e : ExprTree Spot) (d : ℕ) (ts r : List Token) → Reads (outlines.expr names e) d ts r → length r < length ts
+expr_shorter names (name n x) d ts r y = omega (arith, reads_length (outlines.expr names (name n x)) d ts r y)
+expr_shorter names (integer n v c) d ts r y = omega (arith, reads_length (outlines.expr names (integer n v c)) d ts r y)
+expr_shorter names (character n v) d ts r y = omega (arith, reads_length (outlines.expr names (character n v)) d ts r y)
 expr_shorter names (string n []) d ts r y = absurd y.1
-expr_shorter names (string n (b ∷ bs)) d ts r y = omega (arith, reads_length (o.expr names (string n (b ∷ bs))) d ts r y)
-expr_shorter names (paren n e) d ts r y = omega (arith, reads_length (o.expr names (paren n e)) d ts r y)
-expr_shorter names (unary n op e) d ts r y = omega (arith, reads_length (o.expr names (unary n op e)) d ts r y)
-expr_shorter names (binary n op a b) d ts r y = omega (arith, reads_length (o.expr names (binary n op a b)) d ts r y)
-expr_shorter names (assign n op a b) d ts r y = omega (arith, reads_length (o.expr names (assign n op a b)) d ts r y)
-expr_shorter names (step n op side.Before e) d ts r y = omega (arith, reads_length (o.expr names (step n op side.Before e)) d ts r y)
-expr_shorter names (step n op side.After e) d ts r y = omega (arith, reads_length (o.expr names (step n op side.After e)) d ts r y)
-expr_shorter names (choice n c a b) d ts r y = omega (arith, reads_length (o.expr names (choice n c a b)) d ts r y)
-expr_shorter names (comma n a b) d ts r y = omega (arith, reads_length (o.expr names (comma n a b)) d ts r y)
-expr_shorter names (call n f es) d ts r y = omega (arith, reads_length (o.expr names (call n f es)) d ts r y)
-expr_shorter names (member n e x) d ts r y = omega (arith, reads_length (o.expr names (member n e x)) d ts r y)
-expr_shorter names (arrow n e x) d ts r y = omega (arith, reads_length (o.expr names (arrow n e x)) d ts r y)
-expr_shorter names (index n a i) d ts r y = omega (arith, reads_length (o.expr names (index n a i)) d ts r y)
-expr_shorter names (cast n t e) d ts r y = omega (arith, reads_length (o.expr names (cast n t e)) d ts r y)
-expr_shorter names (size_expr n e) d ts r y = omega (arith, reads_length (o.expr names (size_expr n e)) d ts r y)
-expr_shorter names (size_type n t) d ts r y = omega (arith, reads_length (o.expr names (size_type n t)) d ts r y)
+expr_shorter names (string n (b ∷ bs)) d ts r y = omega (arith, reads_length (outlines.expr names (string n (b ∷ bs))) d ts r y)
+expr_shorter names (paren n e) d ts r y = omega (arith, reads_length (outlines.expr names (paren n e)) d ts r y)
+expr_shorter names (unary n op e) d ts r y = omega (arith, reads_length (outlines.expr names (unary n op e)) d ts r y)
+expr_shorter names (binary n op a b) d ts r y = omega (arith, reads_length (outlines.expr names (binary n op a b)) d ts r y)
+expr_shorter names (assign n op a b) d ts r y = omega (arith, reads_length (outlines.expr names (assign n op a b)) d ts r y)
+expr_shorter names (step n op side.Before e) d ts r y = omega (arith, reads_length (outlines.expr names (step n op side.Before e)) d ts r y)
+expr_shorter names (step n op side.After e) d ts r y = omega (arith, reads_length (outlines.expr names (step n op side.After e)) d ts r y)
+expr_shorter names (choice n c a b) d ts r y = omega (arith, reads_length (outlines.expr names (choice n c a b)) d ts r y)
+expr_shorter names (comma n a b) d ts r y = omega (arith, reads_length (outlines.expr names (comma n a b)) d ts r y)
+expr_shorter names (call n f es) d ts r y = omega (arith, reads_length (outlines.expr names (call n f es)) d ts r y)
+expr_shorter names (member n e x) d ts r y = omega (arith, reads_length (outlines.expr names (member n e x)) d ts r y)
+expr_shorter names (arrow n e x) d ts r y = omega (arith, reads_length (outlines.expr names (arrow n e x)) d ts r y)
+expr_shorter names (index n a i) d ts r y = omega (arith, reads_length (outlines.expr names (index n a i)) d ts r y)
+expr_shorter names (cast n t e) d ts r y = omega (arith, reads_length (outlines.expr names (cast n t e)) d ts r y)
+expr_shorter names (size_expr n e) d ts r y = omega (arith, reads_length (outlines.expr names (size_expr n e)) d ts r y)
+expr_shorter names (size_type n t) d ts r y = omega (arith, reads_length (outlines.expr names (size_type n t)) d ts r y)
 
 pub operand_shorter : (names : Names) (e : ExprTree Spot) (d : ℕ) (ts r : List Token) → ReadsExpr names d e ts r → length r < length ts
-operand_shorter names e d ts r y = expr_shorter names e d ts r (inside_sinks true (o.expr names e) d ts r y)
+operand_shorter names e d ts r y = expr_shorter names e d ts r (inside_sinks true (outlines.expr names e) d ts r y)

@@ -2,15 +2,15 @@
 use Rattle.std.proofs.Common.{◌≡◌, ◌≤◌, ◌<◌, ◌+◌, refl, ℕ, zero, suc, true, false, List, Some, None, Ok, arith, ap, ◌∙◌}
 use Rattle.std.specs.Prelude.{◌&&◌, ◌||◌, nat_lt}
 use Rattle.std.proofs.lemmas.Bool.{lt-ltb}
-use Rattle.cc_tree.specs.declared.place.Spot.{Spot}
+use Rattle.cc_base.specs.declared.place.Spot.{Spot}
 use Rattle.cc_lex.specs.declared.token.Token.{Token}
 use Rattle.cc_lex.specs.declared.token.TokenKind.TheVariants as kind
-use Rattle.cc_lex.specs.declared.punct.Punct.TheVariants as p
-use Rattle.cc_syntax.specs.Trees.{DeclTree, declared, nameless, pointer, array, function, grouped}
-use Rattle.cc_syntax.specs.Depth.{declarator_depth}
+use Rattle.cc_lex.specs.declared.punct.Punct.TheVariants as the_punct
+use Rattle.cc_tree.specs.Trees.{DeclTree, declared, nameless, pointer, array, function, grouped}
+use Rattle.cc_tree.specs.Depth.{declarator_depth}
 use Rattle.cc_grammar.specs.Names.{Names, is_type}
 use Rattle.cc_grammar.specs.Outline.{end, part, depth, deeper}
-use Rattle.cc_grammar.specs.Outlines as o
+use Rattle.cc_grammar.specs.Outlines as outlines
 use Rattle.cc_grammar.specs.Classes.{next_is, is_punct, skip, next_ident, starts_spec}
 use Rattle.cc_grammar.specs.Outcomes.{and_then, pure, ◌>>=◌}
 use Rattle.cc_grammar.specs.Reading.{Inner, Mode, direct, suffix, suffixes, suffix_comes}
@@ -27,26 +27,26 @@ use Rattle.cc_parse_laws.proofs.Inner.{ReadsDeclarator, Suits, EndsDeclarator}
 -- parameters or an array's length, or what ends the whole
 pub record Suffixed (names : Names) (r : List Token) : Type 0 where
   pub no_name : next_ident r ≡ None
-  pub paren : next_is p.LeftParen r ≡ true → (next_is p.RightParen (skip r) || starts_spec names (skip r)) ≡ true
+  pub paren : next_is the_punct.LeftParen r ≡ true → (next_is the_punct.RightParen (skip r) || starts_spec names (skip r)) ≡ true
 
 -- no direct declarator begins with a star
-pub no_star : (names : Names) (f : DeclTree Spot) (d : ℕ) (ts r : List Token) → o.is_direct f ≡ true → Reads (o.declarator names f) d ts r → next_is p.Star r ≡ false → next_is p.Star ts ≡ false
-no_star names (declared n x) d ts r e y z = at_token (next_is p.Star) (is_punct p.Star) (λ t us. refl) (is_type names x ≡ false) (kind.Identifier x) (Some n) end d ts r y
-no_star names nameless d ts r e y z = ap (next_is p.Star) y ∙ z
+pub no_star : (names : Names) (f : DeclTree Spot) (d : ℕ) (ts r : List Token) → outlines.is_direct f ≡ true → Reads (outlines.declarator names f) d ts r → next_is the_punct.Star r ≡ false → next_is the_punct.Star ts ≡ false
+no_star names (declared n x) d ts r e y z = at_token (next_is the_punct.Star) (is_punct the_punct.Star) (λ t us. refl) (is_type names x ≡ false) (kind.Identifier x) (Some n) end d ts r y
+no_star names nameless d ts r e y z = ap (next_is the_punct.Star) y ∙ z
 no_star names (pointer n c f) d ts r e y z = absurd cc
 no_star names (array n f l) d ts r e y z =
-    no_star names f d ts y.2.0 y.2.1 (inside_sinks (o.is_written f) (o.declarator names f) d ts y.2.0 y.2.2)
-    (at_token (next_is p.Star) (is_punct p.Star) (λ t us. refl) (Unit {0}) (kind.Punct p.LeftBracket) (o.suffix_spot f n) (after (after (inside (o.declarator names (array n f l))))) d y.2.0 y.0 y.2.3)
+    no_star names f d ts y.2.0 y.2.1 (inside_sinks (outlines.is_written f) (outlines.declarator names f) d ts y.2.0 y.2.2)
+    (at_token (next_is the_punct.Star) (is_punct the_punct.Star) (λ t us. refl) (Unit {0}) (kind.Punct the_punct.LeftBracket) (outlines.suffix_spot f n) (after (after (inside (outlines.declarator names (array n f l))))) d y.2.0 y.0 y.2.3)
 no_star names (function n f ps) d ts r e y z =
-    no_star names f d ts y.2.0 y.2.1 (inside_sinks (o.is_written f) (o.declarator names f) d ts y.2.0 y.2.2)
-    (at_token (next_is p.Star) (is_punct p.Star) (λ t us. refl) (Unit {0}) (kind.Punct p.LeftParen) (o.suffix_spot f n) (after (after (inside (o.declarator names (function n f ps))))) d y.2.0 y.0 y.2.3)
+    no_star names f d ts y.2.0 y.2.1 (inside_sinks (outlines.is_written f) (outlines.declarator names f) d ts y.2.0 y.2.2)
+    (at_token (next_is the_punct.Star) (is_punct the_punct.Star) (λ t us. refl) (Unit {0}) (kind.Punct the_punct.LeftParen) (outlines.suffix_spot f n) (after (after (inside (outlines.declarator names (function n f ps))))) d y.2.0 y.0 y.2.3)
 no_star names (grouped n f) d ts r e y z =
-    at_token (next_is p.Star) (is_punct p.Star) (λ t us. refl) (Unit {0}) (kind.Punct p.LeftParen) (o.opening_spot f n) (after (inside (o.declarator names (grouped n f)))) d ts y.0 y.2
+    at_token (next_is the_punct.Star) (is_punct the_punct.Star) (λ t us. refl) (Unit {0}) (kind.Punct the_punct.LeftParen) (outlines.opening_spot f n) (after (inside (outlines.declarator names (grouped n f)))) d ts y.0 y.2
 
 -- a left declarator is less deep
 pub left_depth : (names : Names) (f : DeclTree Spot) (d : ℕ) (ts m : List Token) → ReadsDeclarator names d f ts m → declarator_depth f < suc d
 left_depth names f d ts m y =
-    let low : depth (part (o.is_written f) (Unit {0}) (o.declarator names f) end) ≤ d = reads_depth (part (o.is_written f) (Unit {0}) (o.declarator names f) end) d ts m (m, tt, y, refl) in
+    let low : depth (part (outlines.is_written f) (Unit {0}) (outlines.declarator names f) end) ≤ d = reads_depth (part (outlines.is_written f) (Unit {0}) (outlines.declarator names f) end) d ts m (m, tt, y, refl) in
     omega (arith, depths.declarator_depth names f, low)
 
 module _ (names : Names) (inner : Inner) (d : ℕ) where
@@ -87,8 +87,8 @@ module _ (names : Names) (inner : Inner) (d : ℕ) where
   done_at zero f r e = refl
   done_at (suc turns) f r e =
       branch_false (suffix_comes names inner (suc d) r && nat_lt (declarator_depth f) (suc d)) (suffix names inner (suc d) f >>= suffixes names inner (suc d) turns) (pure f) r
-      (and_left (suffix_comes names inner (suc d) r) (nat_lt (declarator_depth f) (suc d)) (neither (next_is p.LeftBracket r) (next_is p.LeftParen r) e.no_bracket e.no_paren))
+      (and_left (suffix_comes names inner (suc d) r) (nat_lt (declarator_depth f) (suc d)) (neither (next_is the_punct.LeftBracket r) (next_is the_punct.LeftParen r) e.no_bracket e.no_paren))
 
   -- Reading what the declarator is read of comes to it, whatever follows that could follow a left declarator.
   abbrev pub IsGrown : DeclTree Spot → Type 0
-  IsGrown f = (mode : Mode) (ts r : List Token) → Suits mode f → Reads (o.declarator names f) d ts r → Suffixed names r → Grows mode ts f r
+  IsGrown f = (mode : Mode) (ts r : List Token) → Suits mode f → Reads (outlines.declarator names f) d ts r → Suffixed names r → Grows mode ts f r

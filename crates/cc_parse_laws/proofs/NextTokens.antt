@@ -1,19 +1,19 @@
 -- What the class of the next token says of that token.
 use Rattle.std.proofs.Common.{◌≡◌, refl, ℕ, Bool, true, false, List, [], ◌∷◌, Option, Some, None, Ok, Err, sym, subst, inl, inr}
-use Rattle.cc_tree.specs.declared.place.Spot.{Spot}
+use Rattle.cc_base.specs.declared.place.Spot.{Spot}
 use Rattle.cc_lex.specs.declared.token.Token.{Token}
 use Rattle.cc_lex.specs.declared.token.TokenKind.{TokenKind}
 use Rattle.cc_lex.specs.declared.token.TokenKind.TheVariants as kind
 use Rattle.cc_lex.specs.declared.keyword.Keyword.{Keyword}
-use Rattle.cc_lex.specs.declared.keyword.Keyword.TheVariants as k
+use Rattle.cc_lex.specs.declared.keyword.Keyword.TheVariants as the_keyword
 use Rattle.cc_lex.specs.declared.punct.Punct.{Punct}
-use Rattle.cc_lex.specs.declared.punct.Punct.TheVariants as p
-use Rattle.cc_syntax.specs.Trees.{Name}
+use Rattle.cc_lex.specs.declared.punct.Punct.TheVariants as the_punct
+use Rattle.cc_tree.specs.Trees.{Name}
 use Rattle.cc_grammar.specs.Names.{Names, is_type}
-use Rattle.cc_grammar.specs.Levels.{unary_sign, step_sign, binary_sign, assign_sign, spec_keyword}
+use Rattle.cc_grammar.specs.Levels.{unary_punct, step_punct, binary_punct, assign_punct, spec_keyword}
 use Rattle.cc_grammar.specs.Outline.{Outline, end, token, Stands}
-use Rattle.cc_grammar.specs.Outlines.{identifier, sign}
-use Rattle.cc_grammar.specs.Classes.{skip, spot, ident, next_ident, literal, next_literal, Start, begins_name, begins_integer, begins_character, begins_string, begins_paren, begins_unary, begins_step, begins_sizeof, begins_nothing, start_sign, start_key, start_kind, start, Tail, goes_binary, goes_assign, goes_question, goes_comma, goes_call, goes_index, goes_dot, goes_arrow, goes_step, ends_here, tail_sign, tail_kind, tail, SpecStart, spec_word, spec_struct, spec_enum, spec_named, no_spec, spec_key, spec_kind, spec_start}
+use Rattle.cc_grammar.specs.Outlines.{identifier, punct}
+use Rattle.cc_grammar.specs.Classes.{skip, spot, ident, next_ident, literal, next_literal, Start, begins_name, begins_integer, begins_character, begins_string, begins_paren, begins_unary, begins_step, begins_sizeof, begins_nothing, start_punct, start_keyword, start_kind, start, Tail, goes_binary, goes_assign, goes_question, goes_comma, goes_call, goes_index, goes_dot, goes_arrow, goes_step, ends_here, tail_punct, tail_kind, tail, SpecStart, spec_word, spec_struct, spec_enum, spec_named, no_spec, spec_keyword, spec_kind, spec_start}
 use Rattle.cc_grammar.specs.Reading.{skipping, id_by, id}
 use Rattle.cc_grammar.specs.Outcomes.{pure, refuse, take}
 use Rattle.cc_parse_laws.proofs.Spans.{Reads}
@@ -30,7 +30,7 @@ kind_reads h w n o d [] r e a s x = absurd e
 kind_reads h w n o d (t ∷ ts) r e a s x = (a, e, s, x)
 
 -- a punctuator that was taken as the last one
-pub take_last : (s : Punct) (d : ℕ) (ts : List Token) (x : Unit {0} × List Token) → take s ts ≡ Ok x → Reads (sign s end) d ts x.1
+pub take_last : (s : Punct) (d : ℕ) (ts : List Token) (x : Unit {0} × List Token) → take s ts ≡ Ok x → Reads (punct s end) d ts x.1
 take_last s d ts x e = take_reads s end d ts x.1 x e refl
 
 -- the token of a class, if it has one
@@ -48,35 +48,35 @@ start_token (begins_name x) = Some (kind.Identifier x)
 start_token (begins_integer v c) = Some (kind.Integer v c)
 start_token (begins_character v) = Some (kind.Character v)
 start_token (begins_string bytes) = Some (kind.Str bytes)
-start_token begins_paren = Some (kind.Punct p.LeftParen)
-start_token (begins_unary op) = Some (kind.Punct (unary_sign op))
-start_token (begins_step op) = Some (kind.Punct (step_sign op))
-start_token begins_sizeof = Some (kind.Keyword k.Sizeof)
+start_token begins_paren = Some (kind.Punct the_punct.LeftParen)
+start_token (begins_unary op) = Some (kind.Punct (unary_punct op))
+start_token (begins_step op) = Some (kind.Punct (step_punct op))
+start_token begins_sizeof = Some (kind.Keyword the_keyword.Sizeof)
 start_token begins_nothing = None
 
-start_sign_is : (t : Punct) → Is (start_token (start_sign t)) (kind.Punct t)
-start_sign_is p.LeftParen = refl
-start_sign_is p.And = refl
-start_sign_is p.Star = refl
-start_sign_is p.Plus = refl
-start_sign_is p.Minus = refl
-start_sign_is p.Tilde = refl
-start_sign_is p.Not = refl
-start_sign_is p.PlusPlus = refl
-start_sign_is p.MinusMinus = refl
-start_sign_is _ = tt
+start_punct_is : (t : Punct) → Is (start_token (start_punct t)) (kind.Punct t)
+start_punct_is the_punct.LeftParen = refl
+start_punct_is the_punct.And = refl
+start_punct_is the_punct.Star = refl
+start_punct_is the_punct.Plus = refl
+start_punct_is the_punct.Minus = refl
+start_punct_is the_punct.Tilde = refl
+start_punct_is the_punct.Not = refl
+start_punct_is the_punct.PlusPlus = refl
+start_punct_is the_punct.MinusMinus = refl
+start_punct_is _ = tt
 
-start_key_is : (w : Keyword) → Is (start_token (start_key w)) (kind.Keyword w)
-start_key_is k.Sizeof = refl
-start_key_is _ = tt
+start_keyword_is : (w : Keyword) → Is (start_token (start_keyword w)) (kind.Keyword w)
+start_keyword_is the_keyword.Sizeof = refl
+start_keyword_is _ = tt
 
 start_kind_is : (w : TokenKind) → Is (start_token (start_kind w)) w
 start_kind_is (kind.Identifier x) = refl
 start_kind_is (kind.Integer v c) = refl
 start_kind_is (kind.Character v) = refl
 start_kind_is (kind.Str bytes) = refl
-start_kind_is (kind.Punct t) = start_sign_is t
-start_kind_is (kind.Keyword w) = start_key_is w
+start_kind_is (kind.Punct t) = start_punct_is t
+start_kind_is (kind.Keyword w) = start_keyword_is w
 
 pub start_next : (w : TokenKind) (ts : List Token) → start_token (start ts) ≡ Some w → NextKind w ts
 start_next w [] e = absurd cc
@@ -85,59 +85,59 @@ start_next w (t ∷ ts) e = is_next (start_token (start_kind t.kind)) w t ts (st
 -- ---- How an expression goes on
 
 abbrev pub tail_token : Tail → Option TokenKind
-tail_token (goes_binary op) = Some (kind.Punct (binary_sign op))
-tail_token (goes_assign op) = Some (kind.Punct (assign_sign op))
-tail_token goes_question = Some (kind.Punct p.Question)
-tail_token goes_comma = Some (kind.Punct p.Comma)
-tail_token goes_call = Some (kind.Punct p.LeftParen)
-tail_token goes_index = Some (kind.Punct p.LeftBracket)
-tail_token goes_dot = Some (kind.Punct p.Dot)
-tail_token goes_arrow = Some (kind.Punct p.Arrow)
-tail_token (goes_step op) = Some (kind.Punct (step_sign op))
+tail_token (goes_binary op) = Some (kind.Punct (binary_punct op))
+tail_token (goes_assign op) = Some (kind.Punct (assign_punct op))
+tail_token goes_question = Some (kind.Punct the_punct.Question)
+tail_token goes_comma = Some (kind.Punct the_punct.Comma)
+tail_token goes_call = Some (kind.Punct the_punct.LeftParen)
+tail_token goes_index = Some (kind.Punct the_punct.LeftBracket)
+tail_token goes_dot = Some (kind.Punct the_punct.Dot)
+tail_token goes_arrow = Some (kind.Punct the_punct.Arrow)
+tail_token (goes_step op) = Some (kind.Punct (step_punct op))
 tail_token ends_here = None
 
-tail_sign_is : (t : Punct) → Is (tail_token (tail_sign t)) (kind.Punct t)
-tail_sign_is p.OrOr = refl
-tail_sign_is p.AndAnd = refl
-tail_sign_is p.Or = refl
-tail_sign_is p.Caret = refl
-tail_sign_is p.And = refl
-tail_sign_is p.EqualEqual = refl
-tail_sign_is p.NotEqual = refl
-tail_sign_is p.Less = refl
-tail_sign_is p.LessEqual = refl
-tail_sign_is p.Greater = refl
-tail_sign_is p.GreaterEqual = refl
-tail_sign_is p.ShiftLeft = refl
-tail_sign_is p.ShiftRight = refl
-tail_sign_is p.Plus = refl
-tail_sign_is p.Minus = refl
-tail_sign_is p.Star = refl
-tail_sign_is p.Slash = refl
-tail_sign_is p.Percent = refl
-tail_sign_is p.Equal = refl
-tail_sign_is p.StarEqual = refl
-tail_sign_is p.SlashEqual = refl
-tail_sign_is p.PercentEqual = refl
-tail_sign_is p.PlusEqual = refl
-tail_sign_is p.MinusEqual = refl
-tail_sign_is p.ShiftLeftEqual = refl
-tail_sign_is p.ShiftRightEqual = refl
-tail_sign_is p.AndEqual = refl
-tail_sign_is p.CaretEqual = refl
-tail_sign_is p.OrEqual = refl
-tail_sign_is p.Question = refl
-tail_sign_is p.Comma = refl
-tail_sign_is p.LeftParen = refl
-tail_sign_is p.LeftBracket = refl
-tail_sign_is p.Dot = refl
-tail_sign_is p.Arrow = refl
-tail_sign_is p.PlusPlus = refl
-tail_sign_is p.MinusMinus = refl
-tail_sign_is _ = tt
+tail_punct_is : (t : Punct) → Is (tail_token (tail_punct t)) (kind.Punct t)
+tail_punct_is the_punct.OrOr = refl
+tail_punct_is the_punct.AndAnd = refl
+tail_punct_is the_punct.Or = refl
+tail_punct_is the_punct.Caret = refl
+tail_punct_is the_punct.And = refl
+tail_punct_is the_punct.EqualEqual = refl
+tail_punct_is the_punct.NotEqual = refl
+tail_punct_is the_punct.Less = refl
+tail_punct_is the_punct.LessEqual = refl
+tail_punct_is the_punct.Greater = refl
+tail_punct_is the_punct.GreaterEqual = refl
+tail_punct_is the_punct.ShiftLeft = refl
+tail_punct_is the_punct.ShiftRight = refl
+tail_punct_is the_punct.Plus = refl
+tail_punct_is the_punct.Minus = refl
+tail_punct_is the_punct.Star = refl
+tail_punct_is the_punct.Slash = refl
+tail_punct_is the_punct.Percent = refl
+tail_punct_is the_punct.Equal = refl
+tail_punct_is the_punct.StarEqual = refl
+tail_punct_is the_punct.SlashEqual = refl
+tail_punct_is the_punct.PercentEqual = refl
+tail_punct_is the_punct.PlusEqual = refl
+tail_punct_is the_punct.MinusEqual = refl
+tail_punct_is the_punct.ShiftLeftEqual = refl
+tail_punct_is the_punct.ShiftRightEqual = refl
+tail_punct_is the_punct.AndEqual = refl
+tail_punct_is the_punct.CaretEqual = refl
+tail_punct_is the_punct.OrEqual = refl
+tail_punct_is the_punct.Question = refl
+tail_punct_is the_punct.Comma = refl
+tail_punct_is the_punct.LeftParen = refl
+tail_punct_is the_punct.LeftBracket = refl
+tail_punct_is the_punct.Dot = refl
+tail_punct_is the_punct.Arrow = refl
+tail_punct_is the_punct.PlusPlus = refl
+tail_punct_is the_punct.MinusMinus = refl
+tail_punct_is _ = tt
 
 tail_kind_is : (w : TokenKind) → Is (tail_token (tail_kind w)) w
-tail_kind_is (kind.Punct t) = tail_sign_is t
+tail_kind_is (kind.Punct t) = tail_punct_is t
 tail_kind_is _ = tt
 
 pub tail_next : (w : TokenKind) (ts : List Token) → tail_token (tail ts) ≡ Some w → NextKind w ts
@@ -148,8 +148,8 @@ tail_next w (t ∷ ts) e = is_next (tail_token (tail_kind t.kind)) w t ts (tail_
 
 abbrev pub spec_token : SpecStart → Option TokenKind
 spec_token (spec_word w) = Some (kind.Keyword (spec_keyword w))
-spec_token spec_struct = Some (kind.Keyword k.Struct)
-spec_token spec_enum = Some (kind.Keyword k.Enum)
+spec_token spec_struct = Some (kind.Keyword the_keyword.Struct)
+spec_token spec_enum = Some (kind.Keyword the_keyword.Enum)
 spec_token (spec_named x) = Some (kind.Identifier x)
 spec_token no_spec = None
 
@@ -161,26 +161,26 @@ IsNamed names spec_enum = Unit {0}
 IsNamed names (spec_named x) = is_type names x ≡ true
 IsNamed names no_spec = Unit {0}
 
-spec_key_is : (names : Names) (w : Keyword) → Is (spec_token (spec_key w)) (kind.Keyword w) × IsNamed names (spec_key w)
-spec_key_is names k.Typedef = (refl, tt)
-spec_key_is names k.Extern = (refl, tt)
-spec_key_is names k.Static = (refl, tt)
-spec_key_is names k.Inline = (refl, tt)
-spec_key_is names k.Const = (refl, tt)
-spec_key_is names k.Void = (refl, tt)
-spec_key_is names k.Char = (refl, tt)
-spec_key_is names k.Short = (refl, tt)
-spec_key_is names k.Int = (refl, tt)
-spec_key_is names k.Long = (refl, tt)
-spec_key_is names k.Signed = (refl, tt)
-spec_key_is names k.Unsigned = (refl, tt)
-spec_key_is names k.Bool = (refl, tt)
-spec_key_is names k.Struct = (refl, tt)
-spec_key_is names k.Enum = (refl, tt)
-spec_key_is names _ = (tt, tt)
+spec_keyword_is : (names : Names) (w : Keyword) → Is (spec_token (spec_keyword w)) (kind.Keyword w) × IsNamed names (spec_keyword w)
+spec_keyword_is names the_keyword.Typedef = (refl, tt)
+spec_keyword_is names the_keyword.Extern = (refl, tt)
+spec_keyword_is names the_keyword.Static = (refl, tt)
+spec_keyword_is names the_keyword.Inline = (refl, tt)
+spec_keyword_is names the_keyword.Const = (refl, tt)
+spec_keyword_is names the_keyword.Void = (refl, tt)
+spec_keyword_is names the_keyword.Char = (refl, tt)
+spec_keyword_is names the_keyword.Short = (refl, tt)
+spec_keyword_is names the_keyword.Int = (refl, tt)
+spec_keyword_is names the_keyword.Long = (refl, tt)
+spec_keyword_is names the_keyword.Signed = (refl, tt)
+spec_keyword_is names the_keyword.Unsigned = (refl, tt)
+spec_keyword_is names the_keyword.Bool = (refl, tt)
+spec_keyword_is names the_keyword.Struct = (refl, tt)
+spec_keyword_is names the_keyword.Enum = (refl, tt)
+spec_keyword_is names _ = (tt, tt)
 
 spec_kind_is : (names : Names) (w : TokenKind) → Is (spec_token (spec_kind names w)) w × IsNamed names (spec_kind names w)
-spec_kind_is names (kind.Keyword w) = spec_key_is names w
+spec_kind_is names (kind.Keyword w) = spec_keyword_is names w
 spec_kind_is names (kind.Identifier x) = decided (is_type names x) refl
   where
     decided : (b : Bool) → is_type names x ≡ b → Is (spec_token (spec_kind names (kind.Identifier x))) (kind.Identifier x) × IsNamed names (spec_kind names (kind.Identifier x))

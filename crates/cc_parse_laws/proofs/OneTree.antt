@@ -1,10 +1,10 @@
 -- Tokens are the spelling of one orderly file at most.
 use Rattle.std.proofs.Common.{◌≡◌, ℕ, max, List, [], Ok, arith, sym, ap, ◌∙◌}
-use Rattle.cc_tree.specs.declared.place.Spot.{Spot}
+use Rattle.cc_base.specs.declared.place.Spot.{Spot}
 use Rattle.cc_lex.specs.declared.token.Token.{Token}
-use Rattle.cc_syntax.specs.Trees.{ExternalTree}
+use Rattle.cc_tree.specs.Trees.{ExternalTree}
 use Rattle.cc_grammar.specs.Outline.{depth}
-use Rattle.cc_grammar.specs.Outlines as o
+use Rattle.cc_grammar.specs.Outlines as outlines
 use Rattle.cc_grammar.specs.Outcomes.{Outcome}
 use Rattle.cc_grammar.specs.Names.{Names}
 use Rattle.cc_grammar.specs.Reading.{readers, reading}
@@ -21,10 +21,10 @@ same_file f g e = ap (λ (y : List (ExternalTree Spot) × List Token). y.0) (ok_
 
 module _ (readers_complete : (names : Names) (d : ℕ) → CompleteInner names (readers names d) d) where
   -- Both are read at the greater of their depths, and reading gives one file.
-  pub one_tree : (tokens : List Token) (f g : List (ExternalTree Spot)) → o.Orderly f → o.Spells f tokens → o.Orderly g → o.Spells g tokens → f ≡ g
+  pub one_tree : (tokens : List Token) (f g : List (ExternalTree Spot)) → outlines.Orderly f → outlines.Spells f tokens → outlines.Orderly g → outlines.Spells g tokens → f ≡ g
   unfolding whole
   one_tree tokens f g orderly_f spells_f orderly_g spells_g =
-      let d = max (depth (o.file f)) (depth (o.file g)) in
+      let d = max (depth (outlines.file f)) (depth (outlines.file g)) in
       let p : reading d tokens ≡ whole f = spelled_file_is_read readers_complete d tokens f orderly_f (omega arith) spells_f in
       let q : reading d tokens ≡ whole g = spelled_file_is_read readers_complete d tokens g orderly_g (omega arith) spells_g in
       same_file f g (sym p ∙ q)

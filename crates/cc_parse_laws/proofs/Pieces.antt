@@ -1,21 +1,21 @@
 -- Pieces of declarations and statements as they are read, over readers of expressions, specifiers and declarators that read
 -- what is there.
 use Rattle.std.proofs.Common.{◌≡◌, ◌<◌, refl, ℕ, zero, suc, true, List, Option, None, Ok, arith, subst}
-use Rattle.cc_tree.specs.declared.place.Spot.{Spot}
+use Rattle.cc_base.specs.declared.place.Spot.{Spot}
 use Rattle.cc_lex.specs.declared.token.Token.{Token}
 use Rattle.cc_lex.specs.declared.token.TokenKind.TheVariants as kind
 use Rattle.cc_lex.specs.declared.keyword.Keyword.{Keyword}
 use Rattle.cc_lex.specs.declared.punct.Punct.{Punct}
-use Rattle.cc_lex.specs.declared.punct.Punct.TheVariants as p
-use Rattle.cc_syntax.specs.Trees.{ExprTree, SpecTrees, StmtTree}
+use Rattle.cc_lex.specs.declared.punct.Punct.TheVariants as the_punct
+use Rattle.cc_tree.specs.Trees.{ExprTree, SpecTrees, StmtTree}
 use Rattle.cc_grammar.specs.Outline.{Outline, end, token, part, Stands}
-use Rattle.cc_grammar.specs.Outlines as o
+use Rattle.cc_grammar.specs.Outlines as outlines
 use Rattle.cc_grammar.specs.Names.{Names}
-use Rattle.cc_grammar.specs.Classes.{next_is, next_is_key, skip, spot, tail_sign, binds}
-use Rattle.cc_grammar.specs.Outcomes.{Parser, take, take_key}
+use Rattle.cc_grammar.specs.Classes.{next_is, next_is_keyword, skip, spot, tail_punct, binds}
+use Rattle.cc_grammar.specs.Outcomes.{Parser, take, take_keyword}
 use Rattle.cc_grammar.specs.Reading.{readers, condition}
 use Rattle.cc_parse_laws.proofs.Spans.{Inside, Reads}
-use Rattle.cc_parse_laws.proofs.Steps.{next_token, reads_next, reads_next_key, reads_take, reads_take_key}
+use Rattle.cc_parse_laws.proofs.Steps.{next_token, reads_next, reads_next_keyword, reads_take, reads_take_keyword}
 use Rattle.cc_parse_laws.proofs.Inner.{CompleteInner, Ends, EndsSpecs}
 use Rattle.cc_parse_laws.proofs.Peeks.{sign_ends}
 
@@ -44,18 +44,18 @@ comes s n i d ts r x =
 
 pub record ComesKey (w : Keyword) (n : Option Spot) (h : Type 0) (i : Outline) (d : ℕ) (ts r : List Token) : Type 0 where
   pub holds : h
-  pub is : next_is_key w ts ≡ true
-  pub taken : take_key w ts ≡ Ok (tt, skip ts)
+  pub is : next_is_keyword w ts ≡ true
+  pub taken : take_keyword w ts ≡ Ok (tt, skip ts)
   pub at : Stands n (spot ts)
   pub then : Reads i d (skip ts) r
 
-pub comes_key : (w : Keyword) (n : Option Spot) (h : Type 0) (i : Outline) (d : ℕ) (ts r : List Token) → Reads (token h (kind.Keyword w) n i) d ts r → ComesKey w n h i d ts r
-comes_key w n h i d ts r x =
+pub comes_keyword : (w : Keyword) (n : Option Spot) (h : Type 0) (i : Outline) (d : ℕ) (ts r : List Token) → Reads (token h (kind.Keyword w) n i) d ts r → ComesKey w n h i d ts r
+comes_keyword w n h i d ts r x =
     let t = next_token h (kind.Keyword w) n i d ts r x in
-    record { holds = t.holds; is = reads_next_key h w n i d ts r x; taken = reads_take_key h w n i d ts r x; at = t.at; then = t.after }
+    record { holds = t.holds; is = reads_next_keyword h w n i d ts r x; taken = reads_take_keyword h w n i d ts r x; at = t.at; then = t.after }
 
 -- the last part of an outline ends with it
-pub only : (i : Outline) (d : ℕ) (ts r : List Token) → Reads (o.within i end) d ts r → Reads i d ts r
+pub only : (i : Outline) (d : ℕ) (ts r : List Token) → Reads (outlines.within i end) d ts r → Reads i d ts r
 only i d ts r x = subst (λ m. Reads i d ts m) x.3 x.2
 
 pub only_counted : (h : Type 0) (i : Outline) (d : ℕ) (ts r : List Token) → Reads (part true h i end) d ts r → h × Inside true (λ e. Reads i e ts r) d
@@ -63,22 +63,22 @@ only_counted h i d ts r x = (x.1, subst (λ m. Inside true (λ e. Reads i e ts m
 
 module _ (readers_complete : (names : Names) (d : ℕ) → CompleteInner names (readers names d) d) where
   -- an expression before a punctuator that ends it
-  pub got_expr : (names : Names) (d least : ℕ) (e : ExprTree Spot) (s : Punct) (i : Outline) (ts r : List Token) → binds (tail_sign s) < least
-      → Reads (o.operand least e (o.expr names e) (o.sign s i)) d ts r → Got ((readers names d).expr least) e (o.sign s i) d ts r
+  pub got_expr : (names : Names) (d least : ℕ) (e : ExprTree Spot) (s : Punct) (i : Outline) (ts r : List Token) → binds (tail_punct s) < least
+      → Reads (outlines.operand least e (outlines.expr names e) (outlines.punct s i)) d ts r → Got ((readers names d).expr least) e (outlines.punct s i) d ts r
   got_expr names d least e s i ts r h x =
       let ends : Ends least x.0 = sign_ends least s x.0 h (reads_next (Unit {0}) s None i d x.0 r x.3) in
       record { rest = x.0; reads = (readers_complete names d).expr least e ts x.0 x.1 x.2 ends; then = x.3 }
 
   -- specifiers, where what comes after goes on with none
-  pub got_specs : (names : Names) (d : ℕ) (ss : SpecTrees Spot) (n : Spot) (i : Outline) (ts r : List Token) → o.BeginAt ss n → ((m : List Token) → Reads i d m r → EndsSpecs names m)
-      → Reads (o.within (o.specs names ss) i) d ts r → Got (readers names d).specs ss i d ts r
+  pub got_specs : (names : Names) (d : ℕ) (ss : SpecTrees Spot) (n : Spot) (i : Outline) (ts r : List Token) → outlines.BeginAt ss n → ((m : List Token) → Reads i d m r → EndsSpecs names m)
+      → Reads (outlines.within (outlines.specs names ss) i) d ts r → Got (readers names d).specs ss i d ts r
   got_specs names d ss n i ts r b ends x = record { rest = x.0; reads = (readers_complete names d).specs ss n ts x.0 b x.2 (ends x.0 x.3); then = x.3 }
 
   -- an expression in parentheses
   pub got_condition : (inner : Names → Parser (StmtTree Spot)) (names : Names) (d : ℕ) (c : ExprTree Spot) (i : Outline) (ts r : List Token)
-      → Reads (o.sign p.LeftParen (o.operand 1 c (o.expr names c) (o.sign p.RightParen i))) d ts r → Got (condition inner d names) c i d ts r
+      → Reads (outlines.punct the_punct.LeftParen (outlines.operand 1 c (outlines.expr names c) (outlines.punct the_punct.RightParen i))) d ts r → Got (condition inner d names) c i d ts r
   got_condition inner names d c i ts r x =
-      let a = comes p.LeftParen None (o.operand 1 c (o.expr names c) (o.sign p.RightParen i)) d ts r x in
-      let e = got_expr names d 1 c p.RightParen i (skip ts) r (omega arith) a.then in
-      let b = comes p.RightParen None i d e.rest r e.then in
+      let a = comes the_punct.LeftParen None (outlines.operand 1 c (outlines.expr names c) (outlines.punct the_punct.RightParen i)) d ts r x in
+      let e = got_expr names d 1 c the_punct.RightParen i (skip ts) r (omega arith) a.then in
+      let b = comes the_punct.RightParen None i d e.rest r e.then in
       record { rest = skip e.rest; reads = rw (a.taken, e.reads, b.taken) refl; then = b.then }

@@ -1,11 +1,11 @@
 -- What is read as a file is there: the tokens that are read are a file of the grammar.
 use Rattle.std.proofs.Common.{◌≡◌, refl, ℕ, zero, suc, true, List, [], ◌∷◌, length, None, Ok, subst, inl, inr}
-use Rattle.cc_tree.specs.declared.place.Spot.{Spot}
+use Rattle.cc_base.specs.declared.place.Spot.{Spot}
 use Rattle.cc_lex.specs.declared.token.Token.{Token}
-use Rattle.cc_lex.specs.declared.punct.Punct.TheVariants as p
-use Rattle.cc_syntax.specs.Trees.{SpecTrees, no_specs, more_specs, DeclTree, declared, nameless, pointer, array, function, grouped, declaration, ExternalTree, outer_declaration, definition}
+use Rattle.cc_lex.specs.declared.punct.Punct.TheVariants as the_punct
+use Rattle.cc_tree.specs.Trees.{SpecTrees, no_specs, more_specs, DeclTree, declared, nameless, pointer, array, function, grouped, declaration, ExternalTree, outer_declaration, definition}
 use Rattle.cc_grammar.specs.Outline.{end, ◌▸◌}
-use Rattle.cc_grammar.specs.Outlines as o
+use Rattle.cc_grammar.specs.Outlines as outlines
 use Rattle.cc_grammar.specs.Outlines.{limit, WellFormed}
 use Rattle.cc_grammar.specs.Names.{Names, has_typedef, after_external}
 use Rattle.cc_grammar.specs.Classes.{next_is, skip, spot}
@@ -21,7 +21,7 @@ use Rattle.cc_parse_laws.proofs.Endings.{Gives, taken}
 use Rattle.cc_parse_laws.proofs.SoundBlocks.{body_sound}
 use Rattle.cc_parse_laws.proofs.SoundStatements.{stmt_sound}
 
-spot_is : (f : DeclTree Spot) (n : Spot) → o.HasSpot f (spot_or f n)
+spot_is : (f : DeclTree Spot) (n : Spot) → outlines.HasSpot f (spot_or f n)
 spot_is (declared m x) n = refl
 spot_is nameless n = tt
 spot_is (pointer m c f) n = refl
@@ -29,7 +29,7 @@ spot_is (array m f size) n = refl
 spot_is (function m f ps) n = refl
 spot_is (grouped m f) n = refl
 
-has_specs : (ss : SpecTrees Spot) (n : Spot) → o.BeginAt ss n → o.HasSpecs ss
+has_specs : (ss : SpecTrees Spot) (n : Spot) → outlines.BeginAt ss n → outlines.HasSpecs ss
 has_specs no_specs n h = absurd h
 has_specs (more_specs s ss) n h = tt
 
@@ -38,28 +38,28 @@ all_read [] e = refl
 all_read (t ∷ ts) e = absurd cc
 
 abbrev pub ReadsExternal : Names → ℕ → ExternalTree Spot → List Token → List Token → Type 0
-ReadsExternal names d y ts r = Reads (o.external names y) d ts r
+ReadsExternal names d y ts r = Reads (outlines.external names y) d ts r
 
 -- to the end of the text
 abbrev pub ReadsAll : Names → ℕ → List (ExternalTree Spot) → List Token → List Token → Type 0
-ReadsAll names d ys ts r = (r ≡ []) × Reads (o.externals names ys) d ts []
+ReadsAll names d ys ts r = (r ≡ []) × Reads (outlines.externals names ys) d ts []
 
 module _ (readers_sound : (names : Names) (d : ℕ) → SoundInner names (readers names d) d) where
   -- what comes behind specifiers and a declarator, which begins at `middle`
   behind_sound : (d : ℕ) (names : Names) (n : Spot) (ss : SpecTrees Spot) (f : DeclTree Spot) (from middle ts : List Token) (x : ExternalTree Spot × List Token)
-      → o.BeginAt ss n → Reads (o.specs names ss) d from middle → o.is_named f ≡ true → ReadsDeclarator names d f middle ts
+      → outlines.BeginAt ss n → Reads (outlines.specs names ss) d from middle → outlines.is_named f ≡ true → ReadsDeclarator names d f middle ts
       → external_behind d names n ss f ts ≡ Ok x → ReadsExternal names d x.0 from x.1
   behind_sound d names n ss f from middle ts x at specs named there e =
-      elim (branched (next_is p.LeftBrace ts) (definition (spot_or f n) ss f <$> body (reads.stmt d) d names) (inits d (has_typedef ss) names f >>= (λ is. take p.Semicolon >> pure (outer_declaration (declaration n ss is)))) ts (Ok x) e) [
+      elim (branched (next_is the_punct.LeftBrace ts) (definition (spot_or f n) ss f <$> body (reads.stmt d) d names) (inits d (has_typedef ss) names f >>= (λ is. take the_punct.Semicolon >> pure (outer_declaration (declaration n ss is)))) ts (Ok x) e) [
         | inl c ↦
             let m = map_ok (body (reads.stmt d) d names ts) (definition (spot_or f n) ss f) x c.1 in
             let s = body_sound readers_sound (reads.stmt d) d (stmt_sound readers_sound d) names ts m.0 m.1 in
             subst (Gives (ReadsExternal names d) from) m.2
             (m.0.1, (has_specs ss n at, spot_is f n), (middle, tt, specs, (ts, named, there, (m.0.1, tt, s, refl))), refl)
         | inr c ↦
-            let a = bind_ok (inits d (has_typedef ss) names f ts) (λ is. take p.Semicolon >> pure (outer_declaration (declaration n ss is))) x c.1 in
+            let a = bind_ok (inits d (has_typedef ss) names f ts) (λ is. take the_punct.Semicolon >> pure (outer_declaration (declaration n ss is))) x c.1 in
             let s = inits_sound readers_sound d (has_typedef ss) names f middle ts a.0 named there a.1 in
-            let t = taken p.Semicolon (outer_declaration (declaration n ss a.0.0)) d a.0.1 x a.2 in
+            let t = taken the_punct.Semicolon (outer_declaration (declaration n ss a.0.0)) d a.0.1 x a.2 in
             subst (Gives (ReadsExternal names d) from) t.0 (x.1, at, (middle, tt, specs, (a.0.1, tt, s, t.1 end x.1 refl)), refl)
       ]
 
@@ -67,11 +67,11 @@ module _ (readers_sound : (names : Names) (d : ℕ) → SoundInner names (reader
   external_sound d names ts x e =
       let n : Spot = spot ts in
       let rest : SpecTrees Spot → Parser (ExternalTree Spot) = (λ ss. (readers names d).declarator with_name >>= external_behind d names n ss) in
-      let a = bind_ok ((readers names d).specs ts) (λ ss. where_next (next_is p.Semicolon) (skipping (pure (outer_declaration (declaration n ss [])))) (rest ss)) x e in
+      let a = bind_ok ((readers names d).specs ts) (λ ss. where_next (next_is the_punct.Semicolon) (skipping (pure (outer_declaration (declaration n ss [])))) (rest ss)) x e in
       let specs = (readers_sound names d).specs ts a.0 a.1 in
-      elim (branched (next_is p.Semicolon a.0.1) (skipping (pure (outer_declaration (declaration n a.0.0 [])))) (rest a.0.0) a.0.1 (Ok x) a.2) [
+      elim (branched (next_is the_punct.Semicolon a.0.1) (skipping (pure (outer_declaration (declaration n a.0.0 [])))) (rest a.0.0) a.0.1 (Ok x) a.2) [
         | inl c ↦
-            let semicolon : Reads (o.sign p.Semicolon ▸ end) d a.0.1 (skip a.0.1) = next_reads p.Semicolon None end d a.0.1 (skip a.0.1) c.0 tt refl in
+            let semicolon : Reads (outlines.punct the_punct.Semicolon ▸ end) d a.0.1 (skip a.0.1) = next_reads the_punct.Semicolon None end d a.0.1 (skip a.0.1) c.0 tt refl in
             subst (Gives (ReadsExternal names d) ts) (ok_is (outer_declaration (declaration n a.0.0 []), skip a.0.1) x c.1)
             (skip a.0.1, specs.0, (a.0.1, tt, specs.1, (a.0.1, tt, refl, semicolon)), refl)
         | inr c ↦
@@ -94,7 +94,7 @@ module _ (readers_sound : (names : Names) (d : ℕ) → SoundInner names (reader
       ]
 
   -- What is read is all of the text, in order and no deeper than the number.
-  pub file_sound : (d : ℕ) (ts : List Token) (x : List (ExternalTree Spot) × List Token) → reading d ts ≡ Ok x → (x.1 ≡ []) × Reads (o.file x.0) d ts []
+  pub file_sound : (d : ℕ) (ts : List Token) (x : List (ExternalTree Spot) × List Token) → reading d ts ≡ Ok x → (x.1 ≡ []) × Reads (outlines.file x.0) d ts []
   unfolding reading
   file_sound d ts x e = externals_by_sound d (suc (length ts)) [] ts x e
 
@@ -102,4 +102,4 @@ module _ (readers_sound : (names : Names) (d : ℕ) → SoundInner names (reader
   pub read_is_well_formed : (tokens : List Token) (x : List (ExternalTree Spot) × List Token) → reading limit tokens ≡ Ok x → WellFormed tokens x.0
   read_is_well_formed tokens x e =
       let s = (file_sound limit tokens x e).1 in
-      record { orderly = reads_hold (o.file x.0) limit tokens [] s; shallow = reads_depth (o.file x.0) limit tokens [] s; spelled = reads_spell (o.file x.0) limit tokens [] [] s tt }
+      record { orderly = reads_hold (outlines.file x.0) limit tokens [] s; shallow = reads_depth (outlines.file x.0) limit tokens [] s; spelled = reads_spell (outlines.file x.0) limit tokens [] [] s tt }

@@ -1,7 +1,7 @@
 -- Steps of reading: what a step that did not fail has read, and how a step reads what stands there.
 use Rattle.std.proofs.Common.{◌≡◌, ◌+◌, refl, ℕ, zero, suc, Bool, true, false, List, [], ◌∷◌, length, Option, None, Ok, Err, arith, sym, ap, ◌∙◌, subst, ◌⊎◌, inl, inr}
 use denote.Enum.Bare.{same_true, true_same}
-use Rattle.cc_tree.specs.declared.place.Spot.{Spot}
+use Rattle.cc_base.specs.declared.place.Spot.{Spot}
 use Rattle.cc_lex.specs.declared.token.Token.{Token}
 use Rattle.cc_lex.specs.declared.token.TokenKind.{TokenKind}
 use Rattle.cc_lex.specs.declared.token.TokenKind.TheVariants as kind
@@ -10,9 +10,9 @@ use Rattle.cc_lex.specs.contracts.keyword.Keyword as keywords
 use Rattle.cc_lex.specs.declared.punct.Punct.{Punct}
 use Rattle.cc_lex.specs.contracts.punct.Punct as puncts
 use Rattle.cc_grammar.specs.Outline.{Outline, end, token, part, size, Stands}
-use Rattle.cc_grammar.specs.Outlines.{sign, key}
-use Rattle.cc_grammar.specs.Classes.{is_punct, is_keyword, next_is, next_is_key, skip, spot}
-use Rattle.cc_grammar.specs.Outcomes.{Outcome, Parser, and_then, take, take_key}
+use Rattle.cc_grammar.specs.Outlines.{punct, keyword}
+use Rattle.cc_grammar.specs.Classes.{is_punct, is_keyword, next_is, next_is_keyword, skip, spot}
+use Rattle.cc_grammar.specs.Outcomes.{Outcome, Parser, and_then, take, take_keyword}
 use Rattle.cc_grammar.specs.Reading.{branch}
 use Rattle.cc_parse_laws.proofs.Spans.{Inside, Reads}
 
@@ -75,9 +75,9 @@ pub next_reads : (s : Punct) (n : Option Spot) (o : Outline) (d : ℕ) (ts r : L
 next_reads s n o d [] r e at x = absurd cc
 next_reads s n o d (t ∷ ts) r e at x = (tt, punct_kind s t.kind e, at, x)
 
-pub next_key_reads : (w : Keyword) (n : Option Spot) (o : Outline) (d : ℕ) (ts r : List Token) → next_is_key w ts ≡ true → Stands n (spot ts) → Reads o d (skip ts) r → Reads (token (Unit {0}) (kind.Keyword w) n o) d ts r
-next_key_reads w n o d [] r e at x = absurd cc
-next_key_reads w n o d (t ∷ ts) r e at x = (tt, keyword_kind w t.kind e, at, x)
+pub next_keyword_reads : (w : Keyword) (n : Option Spot) (o : Outline) (d : ℕ) (ts r : List Token) → next_is_keyword w ts ≡ true → Stands n (spot ts) → Reads o d (skip ts) r → Reads (token (Unit {0}) (kind.Keyword w) n o) d ts r
+next_keyword_reads w n o d [] r e at x = absurd cc
+next_keyword_reads w n o d (t ∷ ts) r e at x = (tt, keyword_kind w t.kind e, at, x)
 
 pub take_ok : (s : Punct) (ts : List Token) (x : Unit {0} × List Token) → take s ts ≡ Ok x → (next_is s ts ≡ true) × (skip ts ≡ x.1)
 take_ok s [] x e = absurd cc
@@ -88,23 +88,23 @@ take_ok s (t ∷ ts) x e = taken (is_punct s t.kind) refl
     taken false h = absurd (let got : take s (t ∷ ts) ≡ Err (t ∷ ts) = rw h refl in cc)
 
 -- a punctuator that was taken is read
-pub take_reads : (s : Punct) (o : Outline) (d : ℕ) (ts r : List Token) (x : Unit {0} × List Token) → take s ts ≡ Ok x → Reads o d x.1 r → Reads (sign s o) d ts r
+pub take_reads : (s : Punct) (o : Outline) (d : ℕ) (ts r : List Token) (x : Unit {0} × List Token) → take s ts ≡ Ok x → Reads o d x.1 r → Reads (punct s o) d ts r
 take_reads s o d ts r x e h =
     let t = take_ok s ts x e in
     next_reads s None o d ts r t.0 tt (subst (λ us. Reads o d us r) (sym t.1) h)
 
-pub take_key_ok : (w : Keyword) (ts : List Token) (x : Unit {0} × List Token) → take_key w ts ≡ Ok x → (next_is_key w ts ≡ true) × (skip ts ≡ x.1)
-take_key_ok w [] x e = absurd cc
-take_key_ok w (t ∷ ts) x e = taken (is_keyword w t.kind) refl
+pub take_keyword_ok : (w : Keyword) (ts : List Token) (x : Unit {0} × List Token) → take_keyword w ts ≡ Ok x → (next_is_keyword w ts ≡ true) × (skip ts ≡ x.1)
+take_keyword_ok w [] x e = absurd cc
+take_keyword_ok w (t ∷ ts) x e = taken (is_keyword w t.kind) refl
   where
     taken : (b : Bool) → is_keyword w t.kind ≡ b → (is_keyword w t.kind ≡ true) × (ts ≡ x.1)
-    taken true h = (h, let got : take_key w (t ∷ ts) ≡ Ok (tt, ts) = rw h refl in ap (λ (y : Unit {0} × List Token). y.1) (ok_is (tt, ts) x (sym got ∙ e)))
-    taken false h = absurd (let got : take_key w (t ∷ ts) ≡ Err (t ∷ ts) = rw h refl in cc)
+    taken true h = (h, let got : take_keyword w (t ∷ ts) ≡ Ok (tt, ts) = rw h refl in ap (λ (y : Unit {0} × List Token). y.1) (ok_is (tt, ts) x (sym got ∙ e)))
+    taken false h = absurd (let got : take_keyword w (t ∷ ts) ≡ Err (t ∷ ts) = rw h refl in cc)
 
-pub take_key_reads : (w : Keyword) (o : Outline) (d : ℕ) (ts r : List Token) (x : Unit {0} × List Token) → take_key w ts ≡ Ok x → Reads o d x.1 r → Reads (key w o) d ts r
-take_key_reads w o d ts r x e h =
-    let t = take_key_ok w ts x e in
-    next_key_reads w None o d ts r t.0 tt (subst (λ us. Reads o d us r) (sym t.1) h)
+pub take_keyword_reads : (w : Keyword) (o : Outline) (d : ℕ) (ts r : List Token) (x : Unit {0} × List Token) → take_keyword w ts ≡ Ok x → Reads o d x.1 r → Reads (keyword w o) d ts r
+take_keyword_reads w o d ts r x e h =
+    let t = take_keyword_ok w ts x e in
+    next_keyword_reads w None o d ts r t.0 tt (subst (λ us. Reads o d us r) (sym t.1) h)
 
 -- ---- What stands there
 
@@ -125,9 +125,9 @@ pub reads_next : (h : Type 0) (s : Punct) (n : Option Spot) (o : Outline) (d : �
 reads_next h s n o d [] r x = absurd x
 reads_next h s n o d (t ∷ ts) r x = kind_punct s t.kind x.1
 
-pub reads_next_key : (h : Type 0) (w : Keyword) (n : Option Spot) (o : Outline) (d : ℕ) (ts r : List Token) → Reads (token h (kind.Keyword w) n o) d ts r → next_is_key w ts ≡ true
-reads_next_key h w n o d [] r x = absurd x
-reads_next_key h w n o d (t ∷ ts) r x = kind_keyword w t.kind x.1
+pub reads_next_keyword : (h : Type 0) (w : Keyword) (n : Option Spot) (o : Outline) (d : ℕ) (ts r : List Token) → Reads (token h (kind.Keyword w) n o) d ts r → next_is_keyword w ts ≡ true
+reads_next_keyword h w n o d [] r x = absurd x
+reads_next_keyword h w n o d (t ∷ ts) r x = kind_keyword w t.kind x.1
 
 take_it : (s : Punct) (t : Token) (ts : List Token) → is_punct s t.kind ≡ true → take s (t ∷ ts) ≡ Ok (tt, ts)
 take_it s t ts e = rw e refl
@@ -137,12 +137,12 @@ pub reads_take : (h : Type 0) (s : Punct) (n : Option Spot) (o : Outline) (d : �
 reads_take h s n o d [] r x = absurd x
 reads_take h s n o d (t ∷ ts) r x = take_it s t ts (kind_punct s t.kind x.1)
 
-take_that : (w : Keyword) (t : Token) (ts : List Token) → is_keyword w t.kind ≡ true → take_key w (t ∷ ts) ≡ Ok (tt, ts)
+take_that : (w : Keyword) (t : Token) (ts : List Token) → is_keyword w t.kind ≡ true → take_keyword w (t ∷ ts) ≡ Ok (tt, ts)
 take_that w t ts e = rw e refl
 
-pub reads_take_key : (h : Type 0) (w : Keyword) (n : Option Spot) (o : Outline) (d : ℕ) (ts r : List Token) → Reads (token h (kind.Keyword w) n o) d ts r → take_key w ts ≡ Ok (tt, skip ts)
-reads_take_key h w n o d [] r x = absurd x
-reads_take_key h w n o d (t ∷ ts) r x = take_that w t ts (kind_keyword w t.kind x.1)
+pub reads_take_keyword : (h : Type 0) (w : Keyword) (n : Option Spot) (o : Outline) (d : ℕ) (ts r : List Token) → Reads (token h (kind.Keyword w) n o) d ts r → take_keyword w ts ≡ Ok (tt, skip ts)
+reads_take_keyword h w n o d [] r x = absurd x
+reads_take_keyword h w n o d (t ∷ ts) r x = take_that w t ts (kind_keyword w t.kind x.1)
 
 -- ---- Lengths
 

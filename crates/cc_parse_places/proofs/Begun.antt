@@ -2,7 +2,7 @@
 -- It is orderly as far as it is there, and no deeper there. The invariant of each reader that fails: it has begun what it reads,
 -- and it fails where that is cut off. What is missing may be anything, but of a kind that lets the whole stand where it stands.
 use Rattle.std.proofs.Common.{◌≡◌, ℕ, zero, suc, Bool, true, false, List, [], ◌∷◌, Option, sym, subst, ◌⊎◌, inl, inr}
-use Rattle.cc_tree.specs.declared.place.Spot.{Spot}
+use Rattle.cc_base.specs.declared.place.Spot.{Spot}
 use Rattle.cc_lex.specs.declared.token.Token.{Token}
 use Rattle.cc_lex.specs.declared.token.TokenKind.{TokenKind}
 use Rattle.cc_lex.specs.declared.token.TokenKind.TheVariants as kind
@@ -10,7 +10,7 @@ use Rattle.cc_lex.specs.declared.keyword.Keyword.{Keyword}
 use Rattle.cc_lex.specs.declared.punct.Punct.{Punct}
 use Rattle.cc_grammar.specs.Outline.{Outline, end, token, part, Stands}
 use Rattle.cc_grammar.specs.Outlines.{within}
-use Rattle.cc_grammar.specs.Classes.{next_is, next_is_key, skip, spot}
+use Rattle.cc_grammar.specs.Classes.{next_is, next_is_keyword, skip, spot}
 use Rattle.cc_parse_laws.proofs.Spans.{Inside, Reads}
 use Rattle.cc_parse_laws.proofs.Steps.{punct_kind, keyword_kind}
 use Rattle.cc_parse_laws.proofs.NextTokens.{NextKind}
@@ -57,14 +57,14 @@ pub next_punct : (s : Punct) (ts : List Token) → next_is s ts ≡ true → Nex
 next_punct s [] e = absurd cc
 next_punct s (t ∷ ts) e = punct_kind s t.kind e
 
-pub next_keyword : (w : Keyword) (ts : List Token) → next_is_key w ts ≡ true → NextKind (kind.Keyword w) ts
+pub next_keyword : (w : Keyword) (ts : List Token) → next_is_keyword w ts ≡ true → NextKind (kind.Keyword w) ts
 next_keyword w [] e = absurd cc
 next_keyword w (t ∷ ts) e = keyword_kind w t.kind e
 
 pub sign_then : {s : Punct} {n : Option Spot} {o : Outline} {d : ℕ} {ts r : List Token} → next_is s ts ≡ true → Stands n (spot ts) → Begun o d (skip ts) r → Begun (token (Unit {0}) (kind.Punct s) n o) d ts r
 sign_then {s} {n} {o} {d} {ts} e st x = token_then tt (next_punct s ts e) st x
 
-pub key_then : {w : Keyword} {n : Option Spot} {o : Outline} {d : ℕ} {ts r : List Token} → next_is_key w ts ≡ true → Stands n (spot ts) → Begun o d (skip ts) r → Begun (token (Unit {0}) (kind.Keyword w) n o) d ts r
+pub key_then : {w : Keyword} {n : Option Spot} {o : Outline} {d : ℕ} {ts r : List Token} → next_is_keyword w ts ≡ true → Stands n (spot ts) → Begun o d (skip ts) r → Begun (token (Unit {0}) (kind.Keyword w) n o) d ts r
 key_then {w} {n} {o} {d} {ts} e st x = token_then tt (next_keyword w ts e) st x
 
 inside_cut : (c : Bool) (i : Outline) (d : ℕ) (ts r : List Token) → Inside c (λ e. Begun i e ts r) d → Inside c (λ e. Cut i e ts r) d

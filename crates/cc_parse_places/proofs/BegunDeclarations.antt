@@ -1,12 +1,12 @@
 -- Initialisers and declarations at which reading fails are begun.
 use Rattle.std.proofs.Common.{◌≡◌, refl, ℕ, zero, suc, Bool, true, List, [], ◌∷◌, length, Some, None, Err, arith, inl, inr}
-use Rattle.cc_tree.specs.declared.place.Spot.{Spot}
+use Rattle.cc_base.specs.declared.place.Spot.{Spot}
 use Rattle.cc_lex.specs.declared.token.Token.{Token}
-use Rattle.cc_lex.specs.declared.punct.Punct.TheVariants as p
-use Rattle.cc_syntax.specs.Trees.{name, ValueTree, single, braces, DeclTree, InitTree, init, DeclarationTree, declaration}
-use Rattle.cc_syntax.specs.Views.{gathered_values}
+use Rattle.cc_lex.specs.declared.punct.Punct.TheVariants as the_punct
+use Rattle.cc_tree.specs.Trees.{name, ValueTree, single, braces, DeclTree, InitTree, init, DeclarationTree, declaration}
+use Rattle.cc_tree.specs.Views.{gathered_values}
 use Rattle.cc_grammar.specs.Names.{Names, has_typedef, after_declarator}
-use Rattle.cc_grammar.specs.Outlines as o
+use Rattle.cc_grammar.specs.Outlines as outlines
 use Rattle.cc_grammar.specs.Classes.{next_is, skip, spot}
 use Rattle.cc_grammar.specs.Outcomes.{and_then}
 use Rattle.cc_grammar.specs.Reading.{readers, with_name, value, given, inits_behind, inits, declaration_at}
@@ -24,12 +24,12 @@ use Rattle.cc_parse_places.proofs.BegunReaders.{readers_fail}
 -- ---- Initialisers
 
 abbrev ValueBegun : Names → ℕ → ValueTree Spot → List Token → List Token → Type 0
-ValueBegun names d v ts m = Begun (o.value names v) d ts m
+ValueBegun names d v ts m = Begun (outlines.value names v) d ts m
 
 no_value : (names : Names) (d : ℕ) (ts : List Token) → (v : ValueTree Spot) × ValueBegun names d v ts ts
 no_value names d ts = (single (name (spot ts) []), at refl)
 
-further_begun : (names : Names) (d : ℕ) (vs : List (ValueTree Spot)) (ts m : List Token) → OthersBegun (ReadsValue names d) (ValueBegun names d) vs ts m → Begun (o.further_values names (gathered_values vs)) d ts m
+further_begun : (names : Names) (d : ℕ) (vs : List (ValueTree Spot)) (ts m : List Token) → OthersBegun (ReadsValue names d) (ValueBegun names d) vs ts m → Begun (outlines.further_values names (gathered_values vs)) d ts m
 further_begun names d [] ts m x = at x
 further_begun names d (v ∷ vs) ts m (c, inl x) = sign_then c tt (within_in x)
 further_begun names d (v ∷ vs) ts m (c, inr x) = sign_then c tt (within_past x.0 x.1 (within_in (further_begun names d vs x.0 m x.2)))
@@ -43,15 +43,15 @@ braces_begun names d (v ∷ vs) last ts m (inr (b, inr x)) = part_in {c = true} 
 pub value_fails : (names : Names) (d : ℕ) → Fails (value names d) (ValueBegun names d)
 value_fails names zero ts m e = (single (name (spot ts) []), at (err_is {A = ValueTree Spot} e))
 value_fails names (suc d) ts m e =
-    branch_err (next_is p.LeftBrace ts) _ _ ts e
+    branch_err (next_is the_punct.LeftBrace ts) _ _ ts e
     (λ c f.
     let q = enclosed_fails (value names d) (ReadsValue names d) (ValueBegun names d) (no_value names d) (value_sound readers_sound names d) (value_fails names d) ts m (map_err _ _ f) in
     (braces (spot ts) (gathered_values q.0.0) q.0.1, braces_begun names d q.0.0 q.0.1 ts m q.1))
     (λ c f. let q = (readers_fail names (suc d)).expr 2 (omega arith) (omega arith) ts m (map_err _ _ f) in (single q.0, part_of q.1 q.2))
 
-given_fails : (names : Names) (d : ℕ) → Fails (given names d) (λ v ts m. Begun (o.given names v) d ts m)
+given_fails : (names : Names) (d : ℕ) → Fails (given names d) (λ v ts m. Begun (outlines.given names v) d ts m)
 given_fails names d ts m e =
-    branch_err (next_is p.Equal ts) _ _ ts e
+    branch_err (next_is the_punct.Equal ts) _ _ ts e
     (λ c f. let q = value_fails names d (skip ts) m (map_err _ _ f) in (Some q.0, sign_then c tt (within_in q.1)))
     (λ c f. absurd cc)
 
@@ -59,27 +59,27 @@ given_fails names d ts m e =
 
 abbrev pub InitsBegun : Names → Bool → ℕ → List (InitTree Spot) → List Token → List Token → Type 0
 InitsBegun names typedef d [] ts m = ⊥
-InitsBegun names typedef d (i ∷ is) ts m = Begun (o.inits names typedef (i ∷ is)) d ts m
+InitsBegun names typedef d (i ∷ is) ts m = Begun (outlines.inits names typedef (i ∷ is)) d ts m
 
-pub inits_begun : (names : Names) (typedef : Bool) (d : ℕ) (is : List (InitTree Spot)) (ts m : List Token) → InitsBegun names typedef d is ts m → Begun (o.inits names typedef is) d ts m
+pub inits_begun : (names : Names) (typedef : Bool) (d : ℕ) (is : List (InitTree Spot)) (ts m : List Token) → InitsBegun names typedef d is ts m → Begun (outlines.inits names typedef is) d ts m
 inits_begun names typedef d [] ts m x = absurd x
 inits_begun names typedef d (i ∷ is) ts m x = x
 
-more_begun : (names : Names) (typedef : Bool) (d : ℕ) (is : List (InitTree Spot)) (ts m : List Token) → next_is p.Comma ts ≡ true → InitsBegun names typedef d is (skip ts) m → Begun (o.more_inits names typedef is) d ts m
+more_begun : (names : Names) (typedef : Bool) (d : ℕ) (is : List (InitTree Spot)) (ts m : List Token) → next_is the_punct.Comma ts ≡ true → InitsBegun names typedef d is (skip ts) m → Begun (outlines.more_inits names typedef is) d ts m
 more_begun names typedef d [] ts m c x = absurd x
 more_begun names typedef d (i ∷ is) ts m c x = sign_then c tt x
 
 -- The declarator that was read before begins at `from`.
-inits_behind_fails : (d : ℕ) (typedef : Bool) (turns : ℕ) (names : Names) (f : DeclTree Spot) (from ts m : List Token) → o.is_named f ≡ true → ReadsDeclarator names d f from ts
+inits_behind_fails : (d : ℕ) (typedef : Bool) (turns : ℕ) (names : Names) (f : DeclTree Spot) (from ts m : List Token) → outlines.is_named f ≡ true → ReadsDeclarator names d f from ts
     → inits_behind d typedef turns names f ts ≡ Err m → (is : List (InitTree Spot)) × InitsBegun names typedef d is from m
-inits_behind_fails d typedef zero names f from ts m named there e = (init f None ∷ [], within_in (part_past {c = o.is_written f} ts named there (at (err_is {A = List (InitTree Spot)} e))))
+inits_behind_fails d typedef zero names f from ts m named there e = (init f None ∷ [], within_in (part_past {c = outlines.is_written f} ts named there (at (err_is {A = List (InitTree Spot)} e))))
 inits_behind_fails d typedef (suc turns) names f from ts m named there e =
     let after : Names = after_declarator typedef f names in
     bind_err (given after d ts) _ e
-    (λ g. let q = given_fails after d ts m g in (init f q.0 ∷ [], within_in (part_past {c = o.is_written f} ts named there (within_in q.1))))
+    (λ g. let q = given_fails after d ts m g in (init f q.0 ∷ [], within_in (part_past {c = outlines.is_written f} ts named there (within_in q.1))))
     (λ y ok g.
-    let one : Reads (o.init_of names typedef (init f y.0)) d from y.1 = (ts, named, there, (y.1, tt, given_sound readers_sound after d ts y ok, refl)) in
-    branch_err (next_is p.Comma y.1) _ _ y.1 g
+    let one : Reads (outlines.init_of names typedef (init f y.0)) d from y.1 = (ts, named, there, (y.1, tt, given_sound readers_sound after d ts y ok, refl)) in
+    branch_err (next_is the_punct.Comma y.1) _ _ y.1 g
     (λ c h. bind_err ((readers after d).declarator with_name (skip y.1)) _ h
     (λ k. let q = (readers_fail after d).declarator with_name (skip y.1) m k in
     (init f y.0 ∷ init q.0 None ∷ [], within_past y.1 one (within_in (sign_then c tt (within_in (part_of q.1 q.2))))))
@@ -89,13 +89,13 @@ inits_behind_fails d typedef (suc turns) names f from ts m named there e =
     (init f y.0 ∷ q.0, within_past y.1 one (within_in (more_begun after typedef d q.0 y.1 m c q.1)))))
     (λ c h. absurd cc))
 
-pub inits_fail : (d : ℕ) (typedef : Bool) (names : Names) (f : DeclTree Spot) (from ts m : List Token) → o.is_named f ≡ true → ReadsDeclarator names d f from ts
+pub inits_fail : (d : ℕ) (typedef : Bool) (names : Names) (f : DeclTree Spot) (from ts m : List Token) → outlines.is_named f ≡ true → ReadsDeclarator names d f from ts
     → inits d typedef names f ts ≡ Err m → (is : List (InitTree Spot)) × InitsBegun names typedef d is from m
 inits_fail d typedef names f from ts m named there e = inits_behind_fails d typedef (suc (length ts)) names f from ts m named there e
 
 -- a declaration, and the spot that it has
 abbrev pub DeclarationBegun : Names → ℕ → DeclarationTree Spot → List Token → List Token → Type 0
-DeclarationBegun names d x ts m = o.declaration_spot x × Begun (o.declaration_of names x) d ts m
+DeclarationBegun names d x ts m = outlines.declaration_spot x × Begun (outlines.declaration_of names x) d ts m
 
 pub declaration_fails : (d : ℕ) (names : Names) → Fails (declaration_at d names) (DeclarationBegun names d)
 declaration_fails d names ts m e =
@@ -104,7 +104,7 @@ declaration_fails d names ts m e =
     (λ f. let s = (readers_fail names d).specs ts m f in (declaration n s.0 [], (s.1, within_in s.2)))
     (λ y ok f.
     let s = (readers_sound names d).specs ts y ok in
-    branch_err (next_is p.Semicolon y.1) _ _ y.1 f (λ c g. absurd cc)
+    branch_err (next_is the_punct.Semicolon y.1) _ _ y.1 f (λ c g. absurd cc)
     (λ c g. bind_err (and_then ((readers names d).declarator with_name y.1) (inits d (has_typedef y.0) names)) _ g
     (λ h. bind_err ((readers names d).declarator with_name y.1) _ h
     (λ k. let q = (readers_fail names d).declarator with_name y.1 m k in
@@ -117,4 +117,4 @@ declaration_fails d names ts m e =
     let g = bind_ok ((readers names d).declarator with_name y.1) (inits d (has_typedef y.0) names) z done in
     let first = (readers_sound names d).declarator with_name y.1 g.0 g.1 in
     let all = inits_sound readers_sound d (has_typedef y.0) names g.0.0 y.1 g.0.1 z first.0 first.1 g.2 in
-    (declaration n y.0 z.0, (s.0, within_past y.1 s.1 (within_past z.1 all (at (until_err p.Semicolon (declaration n y.0 z.0) z.1 h))))))))
+    (declaration n y.0 z.0, (s.0, within_past y.1 s.1 (within_past z.1 all (at (until_err the_punct.Semicolon (declaration n y.0 z.0) z.1 h))))))))

@@ -1,7 +1,7 @@
 -- Expressions, specifiers and declarators of each depth at which reading fails are begun.
 use Rattle.std.proofs.Common.{ℕ, zero, suc, Bool, false, List, [], ◌∷◌, arith, inl, inr}
-use Rattle.cc_tree.specs.declared.place.Spot.{Spot}
-use Rattle.cc_syntax.specs.Trees.{ExprTree, name, MemberTree, members, ConstantTree, constant, no_declarators, no_expr}
+use Rattle.cc_base.specs.declared.place.Spot.{Spot}
+use Rattle.cc_tree.specs.Trees.{ExprTree, name, MemberTree, members, ConstantTree, constant, no_declarators, no_expr}
 use Rattle.cc_grammar.specs.Names.{Names}
 use Rattle.cc_grammar.specs.Classes.{spot}
 use Rattle.cc_grammar.specs.Reading.{Inner, no_inner, opened, readers}

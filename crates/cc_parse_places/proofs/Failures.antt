@@ -3,10 +3,10 @@ use Rattle.std.proofs.Common.{◌≡◌, refl, Bool, true, false, List, [], ◌�
 use Rattle.cc_lex.specs.declared.token.Token.{Token}
 use Rattle.cc_lex.specs.declared.keyword.Keyword.{Keyword}
 use Rattle.cc_lex.specs.declared.punct.Punct.{Punct}
-use Rattle.cc_syntax.specs.Trees.{Name}
+use Rattle.cc_tree.specs.Trees.{Name}
 use Rattle.cc_grammar.specs.Names.{Names, is_type}
-use Rattle.cc_grammar.specs.Classes.{is_punct, is_keyword, next_is, next_is_key, next_ident, skip}
-use Rattle.cc_grammar.specs.Outcomes.{Outcome, Parser, and_then, pure, refuse, take, take_key}
+use Rattle.cc_grammar.specs.Classes.{is_punct, is_keyword, next_is, next_is_keyword, next_ident, skip}
+use Rattle.cc_grammar.specs.Outcomes.{Outcome, Parser, and_then, pure, refuse, take, take_keyword}
 use Rattle.cc_grammar.specs.Reading.{branch, skipping, id, id_by}
 
 abbrev failed : {A : Type 0} → List Token → Outcome A
@@ -37,13 +37,13 @@ take_bind {A} {X} {r} s (t ∷ ts) f e a b = by (is_punct s t.kind) refl
     by true h = b h (let got : take s (t ∷ ts) ≡ Ok (tt, ts) = rw h refl in sym (ap (λ o. and_then o f) got) ∙ e)
     by false h = a (let got : take s (t ∷ ts) ≡ Err (t ∷ ts) = rw h refl in err_is (sym (ap (λ o. and_then o f) got) ∙ e))
 
-pub take_key_bind : {A X : Type 0} {r : List Token} (w : Keyword) (ts : List Token) (f : Unit {0} → Parser A) → and_then (take_key w ts) f ≡ Err r → (ts ≡ r → X) → (next_is_key w ts ≡ true → f tt (skip ts) ≡ Err r → X) → X
-take_key_bind w [] f e a b = a (err_is e)
-take_key_bind {A} {X} {r} w (t ∷ ts) f e a b = by (is_keyword w t.kind) refl
+pub take_keyword_bind : {A X : Type 0} {r : List Token} (w : Keyword) (ts : List Token) (f : Unit {0} → Parser A) → and_then (take_keyword w ts) f ≡ Err r → (ts ≡ r → X) → (next_is_keyword w ts ≡ true → f tt (skip ts) ≡ Err r → X) → X
+take_keyword_bind w [] f e a b = a (err_is e)
+take_keyword_bind {A} {X} {r} w (t ∷ ts) f e a b = by (is_keyword w t.kind) refl
   where
     by : (c : Bool) → is_keyword w t.kind ≡ c → X
-    by true h = b h (let got : take_key w (t ∷ ts) ≡ Ok (tt, ts) = rw h refl in sym (ap (λ o. and_then o f) got) ∙ e)
-    by false h = a (let got : take_key w (t ∷ ts) ≡ Err (t ∷ ts) = rw h refl in err_is (sym (ap (λ o. and_then o f) got) ∙ e))
+    by true h = b h (let got : take_keyword w (t ∷ ts) ≡ Ok (tt, ts) = rw h refl in sym (ap (λ o. and_then o f) got) ∙ e)
+    by false h = a (let got : take_keyword w (t ∷ ts) ≡ Err (t ∷ ts) = rw h refl in err_is (sym (ap (λ o. and_then o f) got) ∙ e))
 
 -- the last token of a form
 pub until_err : {A : Type 0} {r : List Token} (s : Punct) (a : A) (ts : List Token) → and_then (take s ts) (λ z. pure a) ≡ Err r → ts ≡ r
@@ -65,10 +65,10 @@ take_bind_ok s (t ∷ ts) f y e = by (is_punct s t.kind) refl
     by true h = (h, let got : take s (t ∷ ts) ≡ Ok (tt, ts) = rw h refl in sym (ap (λ o. and_then o f) got) ∙ e)
     by false h = absurd (let got : take s (t ∷ ts) ≡ Err (t ∷ ts) = rw h refl in let no : and_then (take s (t ∷ ts)) f ≡ Err (t ∷ ts) = ap (λ o. and_then o f) got in cc)
 
-pub take_key_bind_ok : {A : Type 0} (w : Keyword) (ts : List Token) (f : Unit {0} → Parser A) (y : A × List Token) → and_then (take_key w ts) f ≡ Ok y → (next_is_key w ts ≡ true) × (f tt (skip ts) ≡ Ok y)
-take_key_bind_ok w [] f y e = absurd cc
-take_key_bind_ok w (t ∷ ts) f y e = by (is_keyword w t.kind) refl
+pub take_keyword_bind_ok : {A : Type 0} (w : Keyword) (ts : List Token) (f : Unit {0} → Parser A) (y : A × List Token) → and_then (take_keyword w ts) f ≡ Ok y → (next_is_keyword w ts ≡ true) × (f tt (skip ts) ≡ Ok y)
+take_keyword_bind_ok w [] f y e = absurd cc
+take_keyword_bind_ok w (t ∷ ts) f y e = by (is_keyword w t.kind) refl
   where
     by : (c : Bool) → is_keyword w t.kind ≡ c → (is_keyword w t.kind ≡ true) × (f tt ts ≡ Ok y)
-    by true h = (h, let got : take_key w (t ∷ ts) ≡ Ok (tt, ts) = rw h refl in sym (ap (λ o. and_then o f) got) ∙ e)
-    by false h = absurd (let got : take_key w (t ∷ ts) ≡ Err (t ∷ ts) = rw h refl in let no : and_then (take_key w (t ∷ ts)) f ≡ Err (t ∷ ts) = ap (λ o. and_then o f) got in cc)
+    by true h = (h, let got : take_keyword w (t ∷ ts) ≡ Ok (tt, ts) = rw h refl in sym (ap (λ o. and_then o f) got) ∙ e)
+    by false h = absurd (let got : take_keyword w (t ∷ ts) ≡ Err (t ∷ ts) = rw h refl in let no : and_then (take_keyword w (t ∷ ts)) f ≡ Err (t ∷ ts) = ap (λ o. and_then o f) got in cc)

@@ -1,7 +1,7 @@
 -- Readers on two texts that are one up to and with a token and may part behind it. What a reader does with one it does with
 -- the other, until it is past the token: so what it says where it fails at the token doesn't depend on what follows.
 use Rattle.std.proofs.Common.{◌≡◌, ◌≤◌, ◌<◌, ◌+◌, refl, ℕ, zero, suc, Bool, true, false, List, [], ◌∷◌, ◌++◌, length, Ok, Err, arith, sym, ap, ◌∙◌, subst, append_assoc, length-append, ◌&&◌}
-use Rattle.cc_tree.specs.declared.place.Spot.{Spot}
+use Rattle.cc_base.specs.declared.place.Spot.{Spot}
 use Rattle.cc_lex.specs.declared.token.Token.{Token}
 use Rattle.cc_grammar.specs.Classes.{skip, spot}
 use Rattle.cc_grammar.specs.Outcomes.{Outcome, Parser, and_then, pure, refuse, ◌<$>◌}

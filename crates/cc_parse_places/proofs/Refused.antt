@@ -1,11 +1,11 @@
 -- The token at which reading fails is refused whatever follows it, and so no file begins with the tokens up to and with it.
 use Rattle.std.proofs.Common.{◌≡◌, ◌≤◌, ◌-◌, refl, ℕ, List, [], ◌∷◌, ◌++◌, length, take, Ok, Err, arith, sym, ap, ◌∙◌, subst, append_assoc, length-append}
 use Rattle.std.proofs.Math.Seq.{take-append_seam}
-use Rattle.cc_tree.specs.declared.place.Spot.{Spot}
+use Rattle.cc_base.specs.declared.place.Spot.{Spot}
 use Rattle.cc_lex.specs.declared.token.Token.{Token}
-use Rattle.cc_syntax.specs.Trees.{ExternalTree}
+use Rattle.cc_tree.specs.Trees.{ExternalTree}
 use Rattle.cc_grammar.specs.Outline.{depth}
-use Rattle.cc_grammar.specs.Outlines as o
+use Rattle.cc_grammar.specs.Outlines as outlines
 use Rattle.cc_grammar.specs.Outcomes.{Outcome}
 use Rattle.cc_grammar.specs.Reading.{reading}
 use Rattle.cc_parse_laws.proofs.CompleteReaders.{readers_complete}
@@ -52,12 +52,12 @@ no_file_read tokens others f d e g = cc
 
 -- No orderly file that is no deeper begins with the tokens up to and with the refused one.
 pub no_orderly_file_begins_so : (d : ℕ) (tokens : List Token) (t : Token) (rest more : List Token) (f : List (ExternalTree Spot)) → reading d tokens ≡ Err (t ∷ rest)
-    → o.Orderly f → depth (o.file f) ≤ d → o.Spells f (take (length tokens - length rest) tokens ++ more) → ⊥
+    → outlines.Orderly f → depth (outlines.file f) ≤ d → outlines.Spells f (take (length tokens - length rest) tokens ++ more) → ⊥
 no_orderly_file_begins_so d tokens t rest more f failed orderly shallow spelled =
     let parts = left_is_the_end d tokens t rest failed in
     let fails : reading d (parts.0 ++ t ∷ more) ≡ Err (t ∷ more) = refused_whatever_follows d parts.0 t rest more (ap (reading d) (sym parts.1) ∙ failed) in
-    let spells : o.Spells f (parts.0 ++ t ∷ more) = subst (o.Spells f) (before_rest parts.0 t tokens rest more parts.1) spelled in
+    let spells : outlines.Spells f (parts.0 ++ t ∷ more) = subst (outlines.Spells f) (before_rest parts.0 t tokens rest more parts.1) spelled in
     no_file_read (parts.0 ++ t ∷ more) (t ∷ more) f d fails (spelled_file_is_read readers_complete d (parts.0 ++ t ∷ more) f orderly shallow spells)
 
-pub no_file_begins_so : (tokens : List Token) (t : Token) (rest more : List Token) (f : List (ExternalTree Spot)) → reading o.limit tokens ≡ Err (t ∷ rest) → o.WellFormed (take (length tokens - length rest) tokens ++ more) f → ⊥
-no_file_begins_so tokens t rest more f failed w = no_orderly_file_begins_so o.limit tokens t rest more f failed w.orderly w.shallow w.spelled
+pub no_file_begins_so : (tokens : List Token) (t : Token) (rest more : List Token) (f : List (ExternalTree Spot)) → reading outlines.limit tokens ≡ Err (t ∷ rest) → outlines.WellFormed (take (length tokens - length rest) tokens ++ more) f → ⊥
+no_file_begins_so tokens t rest more f failed w = no_orderly_file_begins_so outlines.limit tokens t rest more f failed w.orderly w.shallow w.spelled

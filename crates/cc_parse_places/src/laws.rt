@@ -1,8 +1,8 @@
 // What holds of the token at which reading fails. Each law is the contract of a function without a body.
 ghost use Rattle.std.specs.Prelude.{◌≡◌, ◌-◌, ℕ, List, ◌∷◌, ◌++◌, length, take, Err};
-ghost use Rattle.cc_tree.specs.declared.place.Spot.{Spot as SpotValue};
+ghost use Rattle.cc_base.specs.declared.place.Spot.{Spot as SpotValue};
 ghost use Rattle.cc_lex.specs.declared.token.Token.{Token as TokenValue};
-ghost use Rattle.cc_syntax.specs.Trees.{ExternalTree};
+ghost use Rattle.cc_tree.specs.Trees.{ExternalTree};
 ghost use Rattle.cc_grammar.specs.Outlines.{CutOff, WellFormed, limit};
 ghost use Rattle.cc_grammar.specs.Reading.{reading};
 

@@ -2,7 +2,7 @@
 use Rattle.std.proofs.Common.{◌≡◌, refl, ℕ, zero, suc, Bool, true, false, List, [], ◌∷◌, ◌++◌, length, Ok, Err, sym, ap, ◌∙◌}
 use Rattle.std.proofs.lemmas.List.{append_assoc}
 use Rattle.cc_lex.specs.declared.token.Token.{Token}
-use Rattle.cc_lex.specs.declared.punct.Punct.TheVariants as p
+use Rattle.cc_lex.specs.declared.punct.Punct.TheVariants as the_punct
 use Rattle.cc_grammar.specs.Classes.{next_is, skip}
 use Rattle.cc_grammar.specs.Outcomes.{Outcome, Parser, and_then, ◌>>◌, pure, ◌<$>◌, take}
 use Rattle.cc_grammar.specs.Reading.{branch, where_next, skipping, separated_by, separated, enclosed_by, repeated_by, repeated}
@@ -41,8 +41,8 @@ separated_then one turns found again x us true = again (found ++ x ∷ []) (skip
 separated_then one turns found again x us false = refl
 
 separated_first : {A : Type 0} (one : Parser A) (turns : ℕ) (found : List A) → ((found : List A) (ts : List Token) → separated_from one turns found ts ≡ before found (separated_by one turns ts))
-    → (o : Outcome A) → and_then o (λ x. where_next (next_is p.Comma) (skipping (separated_from one turns (found ++ x ∷ []))) (pure (found ++ x ∷ []))) ≡ before found (and_then o (λ x. where_next (next_is p.Comma) (skipping ((λ xs. x ∷ xs) <$> separated_by one turns)) (pure (x ∷ []))))
-separated_first one turns found again (Ok y) = separated_then one turns found again y.0 y.1 (next_is p.Comma y.1)
+    → (o : Outcome A) → and_then o (λ x. where_next (next_is the_punct.Comma) (skipping (separated_from one turns (found ++ x ∷ []))) (pure (found ++ x ∷ []))) ≡ before found (and_then o (λ x. where_next (next_is the_punct.Comma) (skipping ((λ xs. x ∷ xs) <$> separated_by one turns)) (pure (x ∷ []))))
+separated_first one turns found again (Ok y) = separated_then one turns found again y.0 y.1 (next_is the_punct.Comma y.1)
 separated_first one turns found again (Err r) = refl
 
 pub separated_turns : {A : Type 0} (one : Parser A) (turns : ℕ) (found : List A) (ts : List Token) → separated_from one turns found ts ≡ before found (separated_by one turns ts)
@@ -86,15 +86,15 @@ enclosed_ends found x (Ok y) = refl
 enclosed_ends found x (Err r) = refl
 
 enclosed_comma : {A : Type 0} (one : Parser A) (turns : ℕ) (found : List A) → ((found : List A) (ts : List Token) → enclosed_from one turns found ts ≡ before_marked found (enclosed_by one turns ts))
-    → (x : A) (us : List Token) (b : Bool) → branch b (skipping (where_next (next_is p.RightBrace) (skipping (pure (found ++ x ∷ [], true))) (enclosed_from one turns (found ++ x ∷ [])))) (take p.RightBrace >> pure (found ++ x ∷ [], false)) us
-    ≡ before_marked found (branch b (skipping (where_next (next_is p.RightBrace) (skipping (pure (x ∷ [], true))) ((λ xs. (x ∷ xs.0, xs.1)) <$> enclosed_by one turns))) (take p.RightBrace >> pure (x ∷ [], false)) us)
-enclosed_comma one turns found again x us true = enclosed_then one turns found again x (skip us) (next_is p.RightBrace (skip us))
-enclosed_comma one turns found again x us false = enclosed_ends found x (take p.RightBrace us)
+    → (x : A) (us : List Token) (b : Bool) → branch b (skipping (where_next (next_is the_punct.RightBrace) (skipping (pure (found ++ x ∷ [], true))) (enclosed_from one turns (found ++ x ∷ [])))) (take the_punct.RightBrace >> pure (found ++ x ∷ [], false)) us
+    ≡ before_marked found (branch b (skipping (where_next (next_is the_punct.RightBrace) (skipping (pure (x ∷ [], true))) ((λ xs. (x ∷ xs.0, xs.1)) <$> enclosed_by one turns))) (take the_punct.RightBrace >> pure (x ∷ [], false)) us)
+enclosed_comma one turns found again x us true = enclosed_then one turns found again x (skip us) (next_is the_punct.RightBrace (skip us))
+enclosed_comma one turns found again x us false = enclosed_ends found x (take the_punct.RightBrace us)
 
 enclosed_first : {A : Type 0} (one : Parser A) (turns : ℕ) (found : List A) → ((found : List A) (ts : List Token) → enclosed_from one turns found ts ≡ before_marked found (enclosed_by one turns ts))
-    → (o : Outcome A) → and_then o (λ x. where_next (next_is p.Comma) (skipping (where_next (next_is p.RightBrace) (skipping (pure (found ++ x ∷ [], true))) (enclosed_from one turns (found ++ x ∷ [])))) (take p.RightBrace >> pure (found ++ x ∷ [], false)))
-    ≡ before_marked found (and_then o (λ x. where_next (next_is p.Comma) (skipping (where_next (next_is p.RightBrace) (skipping (pure (x ∷ [], true))) ((λ xs. (x ∷ xs.0, xs.1)) <$> enclosed_by one turns))) (take p.RightBrace >> pure (x ∷ [], false))))
-enclosed_first one turns found again (Ok y) = enclosed_comma one turns found again y.0 y.1 (next_is p.Comma y.1)
+    → (o : Outcome A) → and_then o (λ x. where_next (next_is the_punct.Comma) (skipping (where_next (next_is the_punct.RightBrace) (skipping (pure (found ++ x ∷ [], true))) (enclosed_from one turns (found ++ x ∷ [])))) (take the_punct.RightBrace >> pure (found ++ x ∷ [], false)))
+    ≡ before_marked found (and_then o (λ x. where_next (next_is the_punct.Comma) (skipping (where_next (next_is the_punct.RightBrace) (skipping (pure (x ∷ [], true))) ((λ xs. (x ∷ xs.0, xs.1)) <$> enclosed_by one turns))) (take the_punct.RightBrace >> pure (x ∷ [], false))))
+enclosed_first one turns found again (Ok y) = enclosed_comma one turns found again y.0 y.1 (next_is the_punct.Comma y.1)
 enclosed_first one turns found again (Err r) = refl
 
 pub enclosed_turns : {A : Type 0} (one : Parser A) (turns : ℕ) (found : List A) (ts : List Token) → enclosed_from one turns found ts ≡ before_marked found (enclosed_by one turns ts)

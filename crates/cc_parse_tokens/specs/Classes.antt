@@ -3,24 +3,24 @@ use Rattle.std.specs.Prelude.{ℤ, Option, Some, None}
 use Rattle.cc_arith.specs.declared.kind.IntKind.{IntKind}
 use Rattle.cc_grammar.specs.Classes as grammar
 use Rattle.cc_parse_tokens.specs.declared.class.Start.{Start}
-use Rattle.cc_parse_tokens.specs.declared.class.Start.TheVariants as s
+use Rattle.cc_parse_tokens.specs.declared.class.Start.TheVariants as the_start
 use Rattle.cc_parse_tokens.specs.declared.class.Tail.{Tail}
-use Rattle.cc_parse_tokens.specs.declared.class.Tail.TheVariants as t
+use Rattle.cc_parse_tokens.specs.declared.class.Tail.TheVariants as the_tail
 use Rattle.cc_parse_tokens.specs.declared.class.SpecStart.{SpecStart}
-use Rattle.cc_parse_tokens.specs.declared.class.SpecStart.TheVariants as p
+use Rattle.cc_parse_tokens.specs.declared.class.SpecStart.TheVariants as the_spec_start
 use Rattle.cc_parse_tokens.specs.declared.class.StmtStart.{StmtStart}
-use Rattle.cc_parse_tokens.specs.declared.class.StmtStart.TheVariants as q
+use Rattle.cc_parse_tokens.specs.declared.class.StmtStart.TheVariants as the_stmt_start
 
 abbrev pub class_of_start : grammar.Start → Start
-class_of_start (grammar.begins_name x) = s.Name
-class_of_start (grammar.begins_integer v c) = s.Integer
-class_of_start (grammar.begins_character v) = s.Character
-class_of_start (grammar.begins_string bytes) = s.Str
-class_of_start grammar.begins_paren = s.Paren
-class_of_start (grammar.begins_unary op) = s.Unary op
-class_of_start (grammar.begins_step op) = s.Step op
-class_of_start grammar.begins_sizeof = s.Sizeof
-class_of_start grammar.begins_nothing = s.Nothing
+class_of_start (grammar.begins_name x) = the_start.Name
+class_of_start (grammar.begins_integer v c) = the_start.Integer
+class_of_start (grammar.begins_character v) = the_start.Character
+class_of_start (grammar.begins_string bytes) = the_start.Str
+class_of_start grammar.begins_paren = the_start.Paren
+class_of_start (grammar.begins_unary op) = the_start.Unary op
+class_of_start (grammar.begins_step op) = the_start.Step op
+class_of_start grammar.begins_sizeof = the_start.Sizeof
+class_of_start grammar.begins_nothing = the_start.Nothing
 
 -- the value and kind of an integer constant, and the value of a character constant
 abbrev pub integer_of : grammar.Start → Option (ℤ × IntKind)
@@ -32,35 +32,35 @@ character_of (grammar.begins_character v) = Some v
 character_of _ = None
 
 abbrev pub tail_of : Tail → grammar.Tail
-tail_of (t.Binary op) = grammar.goes_binary op
-tail_of (t.Assign op) = grammar.goes_assign op
-tail_of t.Question = grammar.goes_question
-tail_of t.Comma = grammar.goes_comma
-tail_of t.Call = grammar.goes_call
-tail_of t.Index = grammar.goes_index
-tail_of t.Dot = grammar.goes_dot
-tail_of t.Arrow = grammar.goes_arrow
-tail_of (t.Step op) = grammar.goes_step op
-tail_of t.End = grammar.ends_here
+tail_of (the_tail.Binary op) = grammar.goes_binary op
+tail_of (the_tail.Assign op) = grammar.goes_assign op
+tail_of the_tail.Question = grammar.goes_question
+tail_of the_tail.Comma = grammar.goes_comma
+tail_of the_tail.Call = grammar.goes_call
+tail_of the_tail.Index = grammar.goes_index
+tail_of the_tail.Dot = grammar.goes_dot
+tail_of the_tail.Arrow = grammar.goes_arrow
+tail_of (the_tail.Step op) = grammar.goes_step op
+tail_of the_tail.End = grammar.ends_here
 
 abbrev pub class_of_spec : grammar.SpecStart → SpecStart
-class_of_spec (grammar.spec_word w) = p.Word w
-class_of_spec grammar.spec_struct = p.Struct
-class_of_spec grammar.spec_enum = p.Enum
-class_of_spec (grammar.spec_named x) = p.Named
-class_of_spec grammar.no_spec = p.Nothing
+class_of_spec (grammar.spec_word w) = the_spec_start.Word w
+class_of_spec grammar.spec_struct = the_spec_start.Struct
+class_of_spec grammar.spec_enum = the_spec_start.Enum
+class_of_spec (grammar.spec_named x) = the_spec_start.Named
+class_of_spec grammar.no_spec = the_spec_start.Nothing
 
 abbrev pub stmt_of : StmtStart → grammar.StmtStart
-stmt_of q.Block = grammar.begins_block
-stmt_of q.Empty = grammar.begins_empty
-stmt_of q.If = grammar.begins_if
-stmt_of q.Switch = grammar.begins_switch
-stmt_of q.While = grammar.begins_while
-stmt_of q.Do = grammar.begins_do
-stmt_of q.For = grammar.begins_for
-stmt_of q.Break = grammar.begins_break
-stmt_of q.Continue = grammar.begins_continue
-stmt_of q.Return = grammar.begins_return
-stmt_of q.Case = grammar.begins_case
-stmt_of q.Default = grammar.begins_default
-stmt_of q.Other = grammar.begins_other
+stmt_of the_stmt_start.Block = grammar.begins_block
+stmt_of the_stmt_start.Empty = grammar.begins_empty
+stmt_of the_stmt_start.If = grammar.begins_if
+stmt_of the_stmt_start.Switch = grammar.begins_switch
+stmt_of the_stmt_start.While = grammar.begins_while
+stmt_of the_stmt_start.Do = grammar.begins_do
+stmt_of the_stmt_start.For = grammar.begins_for
+stmt_of the_stmt_start.Break = grammar.begins_break
+stmt_of the_stmt_start.Continue = grammar.begins_continue
+stmt_of the_stmt_start.Return = grammar.begins_return
+stmt_of the_stmt_start.Case = grammar.begins_case
+stmt_of the_stmt_start.Default = grammar.begins_default
+stmt_of the_stmt_start.Other = grammar.begins_other

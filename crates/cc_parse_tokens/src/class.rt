@@ -1,6 +1,6 @@
 // What a token can begin or go on with.
 
-use cc_syntax::{AssignOp, BinaryOp, SpecWord, StepOp, UnaryOp};
+use cc_tree::{AssignOp, BinaryOp, SpecWord, StepOp, UnaryOp};
 
 /// How an expression begins.
 #[derive(Clone, Copy, Debug, PartialEq, Eq)]

@@ -10,10 +10,10 @@ ghost use Rattle.cc_lex.specs.declared.token.TokenKind.TheVariants as kind;
 use crate::class::{SpecStart, Start, StmtStart, Tail};
 use crate::fault::Fault;
 use crate::names::TypedefNames;
-use crate::table::{spec_key, start_key, start_sign, stmt_key, stmt_sign, tail_sign};
+use crate::table::{spec_keyword, start_keyword, start_punct, stmt_keyword, stmt_punct, tail_punct};
 use cc_arith::IntKind;
 use cc_lex::{Keyword, Punct, Token, TokenKind};
-use cc_tree::{Bytes, Spot, Text};
+use cc_base::{Bytes, Spot, Text};
 use std::marker::Model;
 
 /// The tokens that are left. A contract sees them as a list.
@@ -93,18 +93,18 @@ impl<'a> Cursor<'a> {
     }
 
     /// Whether this punctuator comes next.
-    pub fn next_is(&self, sign: Punct) -> bool
-        ensures { result ≡ grammar.next_is sign self.now }
+    pub fn next_is(&self, punct: Punct) -> bool
+        ensures { result ≡ grammar.next_is punct self.now }
     {
         match self.rest {
             [] => false,
-            [token, ..] => is_punct(sign, &token.kind),
+            [token, ..] => is_punct(punct, &token.kind),
         }
     }
 
     /// Whether this keyword comes next.
-    pub fn next_is_key(&self, word: Keyword) -> bool
-        ensures { result ≡ grammar.next_is_key word self.now }
+    pub fn next_is_keyword(&self, word: Keyword) -> bool
+        ensures { result ≡ grammar.next_is_keyword word self.now }
     {
         match self.rest {
             [] => false,
@@ -113,11 +113,11 @@ impl<'a> Cursor<'a> {
     }
 
     /// Takes this punctuator.
-    pub fn take(&mut self, sign: Punct) -> Result<(), Fault>
-        ensures gives { Gives (λ _. tt) (spec.take sign self.old) result self.new }
+    pub fn take(&mut self, punct: Punct) -> Result<(), Fault>
+        ensures gives { Gives (λ _. tt) (spec.take punct self.old) result self.new }
         ensures no_memory { result ≢ Err Memory }
     {
-        if self.next_is(sign) {
+        if self.next_is(punct) {
             self.skip();
             Ok(())
         } else {
@@ -126,11 +126,11 @@ impl<'a> Cursor<'a> {
     }
 
     /// Takes this keyword.
-    pub fn take_key(&mut self, word: Keyword) -> Result<(), Fault>
-        ensures gives { Gives (λ _. tt) (spec.take_key word self.old) result self.new }
+    pub fn take_keyword(&mut self, word: Keyword) -> Result<(), Fault>
+        ensures gives { Gives (λ _. tt) (spec.take_keyword word self.old) result self.new }
         ensures no_memory { result ≢ Err Memory }
     {
-        if self.next_is_key(word) {
+        if self.next_is_keyword(word) {
             self.skip();
             Ok(())
         } else {
@@ -201,8 +201,8 @@ impl<'a> Cursor<'a> {
                 TokenKind::Integer { .. } => Start::Integer,
                 TokenKind::Character { .. } => Start::Character,
                 TokenKind::Str(_) => Start::Str,
-                TokenKind::Punct(sign) => start_sign(*sign),
-                TokenKind::Keyword(word) => start_key(*word),
+                TokenKind::Punct(punct) => start_punct(*punct),
+                TokenKind::Keyword(word) => start_keyword(*word),
             },
         }
     }
@@ -214,7 +214,7 @@ impl<'a> Cursor<'a> {
         match self.rest {
             [] => Tail::End,
             [token, ..] => match &token.kind {
-                TokenKind::Punct(sign) => tail_sign(*sign),
+                TokenKind::Punct(punct) => tail_punct(*punct),
                 _ => Tail::End,
             },
         }
@@ -227,7 +227,7 @@ impl<'a> Cursor<'a> {
         match self.rest {
             [] => SpecStart::Nothing,
             [token, ..] => match &token.kind {
-                TokenKind::Keyword(word) => spec_key(*word),
+                TokenKind::Keyword(word) => spec_keyword(*word),
                 TokenKind::Identifier(name) => named(names, name.as_str()),
                 _ => SpecStart::Nothing,
             },
@@ -248,19 +248,19 @@ impl<'a> Cursor<'a> {
         match self.rest {
             [] => StmtStart::Other,
             [token, ..] => match &token.kind {
-                TokenKind::Keyword(word) => stmt_key(*word),
-                TokenKind::Punct(sign) => stmt_sign(*sign),
+                TokenKind::Keyword(word) => stmt_keyword(*word),
+                TokenKind::Punct(punct) => stmt_punct(*punct),
                 _ => StmtStart::Other,
             },
         }
     }
 }
 
-fn is_punct(sign: Punct, kind: &TokenKind) -> bool
-    ensures { result ≡ grammar.is_punct sign kind.now }
+fn is_punct(punct: Punct, kind: &TokenKind) -> bool
+    ensures { result ≡ grammar.is_punct punct kind.now }
 {
     match kind {
-        TokenKind::Punct(other) => sign == *other,
+        TokenKind::Punct(other) => punct == *other,
         _ => false,
     }
 }

@@ -2,7 +2,7 @@
 ghost use Rattle.std.specs.Prelude.{◌≡◌};
 ghost use Rattle.cc_parse_tokens.specs.declared.fault.Fault.TheVariants.{Memory};
 
-use cc_tree::Memory as NoMemory;
+use cc_base::Memory as NoMemory;
 use std::alloc::AllocError;
 
 /// Why a reader stopped.

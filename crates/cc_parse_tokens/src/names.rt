@@ -2,7 +2,7 @@
 ghost use Rattle.std.specs.Prelude.{◌≡◌, [], OnOk, OnErr};
 ghost use Rattle.cc_grammar.specs.Names.{is_type, added};
 
-use cc_tree::Memory;
+use cc_base::Memory;
 use indexmap::IndexSet;
 use std::alloc::Global;
 use std::marker::Model;

@@ -7,13 +7,13 @@ ghost use Rattle.cc_parse_tokens.specs.Classes.{class_of_start, class_of_spec, t
 use crate::class::{SpecStart, Start, StmtStart, Tail};
 use cc_arith::{IntOp, IntUnary};
 use cc_lex::{Keyword, Punct};
-use cc_syntax::{AssignOp, BinaryOp, SpecWord, StepOp, UnaryOp};
+use cc_tree::{AssignOp, BinaryOp, SpecWord, StepOp, UnaryOp};
 
 /// How an expression begins with this punctuator (C17 6.5.1, 6.5.3).
-pub fn start_sign(sign: Punct) -> Start
-    ensures { result ≡ class_of_start (grammar.start_sign sign) }
+pub fn start_punct(punct: Punct) -> Start
+    ensures { result ≡ class_of_start (grammar.start_punct punct) }
 {
-    match sign {
+    match punct {
         Punct::LeftParen => Start::Paren,
         Punct::And => Start::Unary(UnaryOp::Address),
         Punct::Star => Start::Unary(UnaryOp::Deref),
@@ -28,8 +28,8 @@ pub fn start_sign(sign: Punct) -> Start
 }
 
 /// How an expression begins with this keyword.
-pub fn start_key(word: Keyword) -> Start
-    ensures { result ≡ class_of_start (grammar.start_key word) }
+pub fn start_keyword(word: Keyword) -> Start
+    ensures { result ≡ class_of_start (grammar.start_keyword word) }
 {
     match word {
         Keyword::Sizeof => Start::Sizeof,
@@ -38,10 +38,10 @@ pub fn start_key(word: Keyword) -> Start
 }
 
 /// How an expression goes on with this punctuator (C17 6.5.2, 6.5.5 to 6.5.17).
-pub fn tail_sign(sign: Punct) -> Tail
-    ensures { tail_of result ≡ grammar.tail_sign sign }
+pub fn tail_punct(punct: Punct) -> Tail
+    ensures { tail_of result ≡ grammar.tail_punct punct }
 {
-    match sign {
+    match punct {
         Punct::OrOr => Tail::Binary(BinaryOp::OrOr),
         Punct::AndAnd => Tail::Binary(BinaryOp::AndAnd),
         Punct::Or => Tail::Binary(BinaryOp::Int(IntOp::Or)),
@@ -84,8 +84,8 @@ pub fn tail_sign(sign: Punct) -> Tail
 }
 
 /// How a specifier begins with this keyword (C17 6.7.1 to 6.7.4).
-pub fn spec_key(word: Keyword) -> SpecStart
-    ensures { result ≡ class_of_spec (grammar.spec_key word) }
+pub fn spec_keyword(word: Keyword) -> SpecStart
+    ensures { result ≡ class_of_spec (grammar.spec_keyword word) }
 {
     match word {
         Keyword::Typedef => SpecStart::Word(SpecWord::Typedef),
@@ -108,8 +108,8 @@ pub fn spec_key(word: Keyword) -> SpecStart
 }
 
 /// How a statement or a label begins with this keyword (C17 6.8).
-pub fn stmt_key(word: Keyword) -> StmtStart
-    ensures { stmt_of result ≡ grammar.stmt_key word }
+pub fn stmt_keyword(word: Keyword) -> StmtStart
+    ensures { stmt_of result ≡ grammar.stmt_keyword word }
 {
     match word {
         Keyword::If => StmtStart::If,
@@ -127,10 +127,10 @@ pub fn stmt_key(word: Keyword) -> StmtStart
 }
 
 /// How a statement begins with this punctuator.
-pub fn stmt_sign(sign: Punct) -> StmtStart
-    ensures { stmt_of result ≡ grammar.stmt_sign sign }
+pub fn stmt_punct(punct: Punct) -> StmtStart
+    ensures { stmt_of result ≡ grammar.stmt_punct punct }
 {
-    match sign {
+    match punct {
         Punct::LeftBrace => StmtStart::Block,
         Punct::Semicolon => StmtStart::Empty,
         _ => StmtStart::Other,

@@ -2,8 +2,8 @@
 use super::*;
 use cc_arith::{IntKind, IntOp};
 use cc_lex::{Keyword, Punct, Token, TokenKind};
-use cc_syntax::{AssignOp, BinaryOp, UnaryOp};
-use cc_tree::{Bytes, Spot, Text};
+use cc_tree::{AssignOp, BinaryOp, UnaryOp};
+use cc_base::{Bytes, Spot, Text};
 use std::alloc::{AllocError, Global};
 use std::test::Fail;
 
@@ -63,9 +63,9 @@ fn cursors(rt: HostRuntime) -> Result<(), Fail> {
     assert_eq!(rt; cursor.tail(), Tail::Assign(AssignOp::Plain));
     assert_eq!(rt; left_level(cursor.tail()), 15);
     cursor.skip();
-    assert!(rt; cursor.next_is_key(Keyword::If));
+    assert!(rt; cursor.next_is_keyword(Keyword::If));
     assert_eq!(rt; cursor.stmt_start(), StmtStart::If);
-    assert_eq!(rt; cursor.take_key(Keyword::If), Ok(()));
+    assert_eq!(rt; cursor.take_keyword(Keyword::If), Ok(()));
     assert_eq!(rt; binary_level(BinaryOp::OrOr), 4);
     Ok(())
 }

@@ -11,7 +11,7 @@ use crate::project::{
     TextList,
 };
 use crate::value::{at_key, items_in, items_of, text_in, text_of};
-use cc_tree::{CompId, List, Memory, Text};
+use cc_base::{CompId, List, Memory, Text};
 use std::alloc::Global;
 use toml::Value;
 

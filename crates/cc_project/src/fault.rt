@@ -5,7 +5,7 @@ ghost use Rattle.cc_project.specs.Places.{item_key, member_key};
 ghost use Rattle.cc_project.specs.Order.{at, first_failing};
 ghost use Rattle.cc_project.specs.Outcome.{Reports};
 
-use cc_tree::{Memory, Text};
+use cc_base::{Memory, Text};
 use std::alloc::{AllocError, Global};
 
 /// How a fault names a place of the document, as `entries[2]` or `component[0].name`. Indices count from 0, and `top` is

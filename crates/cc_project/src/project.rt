@@ -1,5 +1,5 @@
 // What a project file says.
-use cc_tree::{CompId, List, Text};
+use cc_base::{CompId, List, Text};
 use std::marker::Model;
 
 pub type TextList = List<Text>;

@@ -2,7 +2,7 @@
 ghost use Rattle.std.specs.Prelude.{◌≡◌, ◌++◌, ◌∷◌, [], length, IfOk, OnErr, if◌then◌else◌};
 ghost use Rattle.cc_project.specs.Names.{is_new};
 
-use cc_tree::Memory;
+use cc_base::Memory;
 use indexmap::IndexSet;
 use std::alloc::Global;
 use std::marker::Model;

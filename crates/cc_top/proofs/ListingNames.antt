@@ -2,7 +2,7 @@
 use Rattle.std.proofs.Common.{◌≡◌, ℕ, true, List, [], ◌∷◌, ◌++◌, All, subst, sym}
 use Rattle.std.specs.List.{flat_map}
 use Rattle.std.proofs.lemmas.List.Elements.{All-nil, All-cons, All-head, All-tail, All-append}
-use Rattle.cc_tree.specs.Program.{Function, Name, Program}
+use Rattle.cc_first_runs.specs.Program.{Function, Name, Program}
 use Rattle.cc_top.specs.Names.{is_free_name}
 use Rattle.cc_top.specs.Unit.{Part, Declaration, Definition, functions_of, names_of_part, program_of}
 

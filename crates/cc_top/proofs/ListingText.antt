@@ -6,8 +6,8 @@ use Rattle.std.proofs.lemmas.List.{append-nil}
 use Rattle.std.proofs.lemmas.List.Elements.{All-nil, All-cons}
 use Rattle.std.proofs.lemmas.Option.{slice_get_within, get_or_from_slice_get}
 use Rattle.csv.specs.Writing.{default_writer, row_text, fields_text, is_blank}
-use Rattle.cc_tree.specs.Program as tree
-use Rattle.cc_tree.specs.Couplings.{Row}
+use Rattle.cc_first_runs.specs.Program as tree
+use Rattle.cc_first_runs.specs.Couplings.{Row}
 use Rattle.cc_top.specs.Listing.{AreLines, component_of, header, line, place_text}
 use Rattle.cc_top.specs.ListingRows.{IsWithin, fields_from, fields_of, fields_of_call, file_of, head_of, header_fields, row_fields}
 use Rattle.cc_top.specs.Names.{is_free_name}

@@ -6,7 +6,7 @@ use Rattle.std.proofs.lemmas.List.Folds.{list_any-append}
 use Rattle.std.specs.List.{list_all}
 use Rattle.std.specs.Fmt.{decimal, digits, digits_onto, digit_glyph}
 use Rattle.csv.specs.Writing.{default_writer, needs_byte, needs_quotes}
-use Rattle.cc_tree.specs.declared.place.Spot.{Spot}
+use Rattle.cc_base.specs.declared.place.Spot.{Spot}
 use Rattle.cc_top.specs.Names.{is_word_byte, in_name, in_file_name, is_identifier, is_free_name, is_name, is_file_name}
 use Rattle.cc_top.specs.Listing.{place_text}
 

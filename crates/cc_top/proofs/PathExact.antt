@@ -9,9 +9,9 @@ use Rattle.cc_base.specs.declared.reach.Edge.{Edge}
 use Rattle.cc_base.specs.Edges.{AreBelow, IsMarked, Leads}
 use Rattle.cc_base.specs.Paths.{Reaches, More}
 use Rattle.cc_base.specs.Paths as paths
-use Rattle.cc_tree.specs.Program as tree
-use Rattle.cc_tree.specs.Program.{IsFunction, IsSite}
-use Rattle.cc_tree.specs.Points.{Node, Block, Statement, Call, Designator, part, Point, Root, Entry, Exit, Before, At, After, behind_parts, Steps, Begin, Leaf, First, Next, Last, Finish, Across, Inside, Start, End, Into, Back, IsLive, IsReachable}
+use Rattle.cc_first_runs.specs.Program as tree
+use Rattle.cc_first_runs.specs.Program.{IsFunction, IsSite}
+use Rattle.cc_first_runs.specs.Points.{Node, Block, Statement, Call, Designator, part, Point, Root, Entry, Exit, Before, At, After, behind_parts, Steps, Begin, Leaf, First, Next, Last, Finish, Across, Inside, Start, End, Into, Back, IsLive, IsReachable}
 use Rattle.cc_top.specs.Linked.{IsSound}
 use Rattle.cc_top.specs.Numbers.{place, before_of, is_last_call, IsEdgeOf, IsThrough, HasCall}
 use Rattle.cc_top.specs.Views.{name_view, calls_view, program_view}

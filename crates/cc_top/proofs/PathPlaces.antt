@@ -2,7 +2,7 @@
 use Rattle.std.proofs.Common.{◌≡◌, ◌≢◌, ◌⊎◌, ℕ, zero, suc, ◌+◌, ◌-◌, ◌*◌, ◌<◌, ◌≤◌, inl, inr, ⊎_elim, List, [], ◌∷◌, length, map, filter, get_or, Option, Some, None, Bool, true, false, not, cond, eqb, refl, sym, ap, ◌∙◌, arith, AllPairs, slice_get}
 use Rattle.std.proofs.lemmas.Bool.{cases_eq, eq-eqb, ne_eqb, eqb-true, eqb-false, not-true, not_from_false}
 use Rattle.std.proofs.lemmas.Option.{slice_get_within, slice_get-get_or, get_or_from_slice_get, same_Some}
-use Rattle.cc_tree.specs.Program as tree
+use Rattle.cc_first_runs.specs.Program as tree
 use Rattle.cc_top.specs.Numbers.{place, point_before, before_of, ends_body, is_last_call, HasCall}
 use Rattle.cc_top.specs.Views.{name_view, calls_view}
 use Rattle.cc_top.specs.declared.program.Call.{Call}

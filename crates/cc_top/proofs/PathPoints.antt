@@ -3,8 +3,8 @@ use Rattle.std.proofs.Common.{◌≡◌, ℕ, suc, ◌<◌, ◌≤◌, length, S
 use Rattle.std.proofs.lemmas.Bool.{lt-ltb, le-ltb}
 use Rattle.cc_base.specs.Paths.{Reaches, More}
 use Rattle.cc_base.specs.Paths as paths
-use Rattle.cc_tree.specs.Program.{Function, Program, IsFunction}
-use Rattle.cc_tree.specs.Points.{Node, Block, Statement, Call, Designator, part, Point, Root, Entry, Exit, Before, At, After, behind_parts, Steps, Begin, Leaf, First, Next, Last, Finish, Across, Inside, Start, End, Into, Back, IsLive, IsReachable}
+use Rattle.cc_first_runs.specs.Program.{Function, Program, IsFunction}
+use Rattle.cc_first_runs.specs.Points.{Node, Block, Statement, Call, Designator, part, Point, Root, Entry, Exit, Before, At, After, behind_parts, Steps, Begin, Leaf, First, Next, Last, Finish, Across, Inside, Start, End, Into, Back, IsLive, IsReachable}
 
 pub block_part : (function : Function) (k : ℕ) → k < length function.calls → part function Block k ≡ Some (Statement k)
 block_part function k lt = ap (λ b. cond b (Some (Statement k)) None) (lt-ltb k (length function.calls) lt)

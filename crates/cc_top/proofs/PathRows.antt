@@ -6,10 +6,10 @@ use Rattle.std.proofs.lemmas.List.Elements.{All-nil, All-push, Contains-push, Co
 use Rattle.std.proofs.lemmas.Option.{slice_get_read, slice_get_within, same_Some}
 use Rattle.cc_base.specs.Edges.{IsMarked}
 use Rattle.cc_base.proofs.Lists.{Contains-nil}
-use Rattle.cc_tree.specs.Program as tree
-use Rattle.cc_tree.specs.Program.{IsSite}
-use Rattle.cc_tree.specs.Couplings.{Row, IsBefore, IsOrdered, IsCoupling, AreCouplings}
-use Rattle.cc_tree.specs.Points.{At, IsReachable}
+use Rattle.cc_first_runs.specs.Program as tree
+use Rattle.cc_first_runs.specs.Program.{IsSite}
+use Rattle.cc_first_runs.specs.Couplings.{Row, IsBefore, IsOrdered, IsCoupling, AreCouplings}
+use Rattle.cc_first_runs.specs.Points.{At, IsReachable}
 use Rattle.cc_top.specs.Linked.{IsSound}
 use Rattle.cc_top.specs.Numbers.{place}
 use Rattle.cc_top.specs.Views.{name_view, program_view, IsCallOf, AreCallsOf}

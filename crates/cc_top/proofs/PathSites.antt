@@ -9,9 +9,9 @@ use Rattle.cc_base.specs.declared.reach.Edge.{Edge}
 use Rattle.cc_base.specs.Edges.{AreBelow, Leads}
 use Rattle.cc_base.specs.Paths.{Reaches}
 use Rattle.cc_base.proofs.Paths.{Reaches-same}
-use Rattle.cc_tree.specs.Program as tree
-use Rattle.cc_tree.specs.Program.{IsSite}
-use Rattle.cc_tree.specs.Points.{MayCall, IsLive}
+use Rattle.cc_first_runs.specs.Program as tree
+use Rattle.cc_first_runs.specs.Program.{IsSite}
+use Rattle.cc_first_runs.specs.Points.{MayCall, IsLive}
 use Rattle.cc_top.specs.Linked.{IsLinkedCall, IsSound}
 use Rattle.cc_top.specs.Linking.{texts_of}
 use Rattle.cc_top.specs.Numbers.{place}

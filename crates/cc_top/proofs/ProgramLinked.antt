@@ -6,7 +6,7 @@ use Rattle.std.proofs.lemmas.Bool.{cases_order, eq-eqb, ne_eqb}
 use Rattle.std.proofs.lemmas.List.{length-map, map-append}
 use Rattle.std.proofs.lemmas.List.Elements.{All-nil, All-cons, All-head, All-tail, All-append, All-weaker, filter-append}
 use Rattle.std.proofs.lemmas.Option.{slice_get_within, get_or_from_slice_get, same_Some}
-use Rattle.cc_tree.specs.Program as tree
+use Rattle.cc_first_runs.specs.Program as tree
 use Rattle.cc_top.specs.Answer.{IsLinked}
 use Rattle.cc_top.specs.Linked.{IsLinkedCall, IsSound}
 use Rattle.cc_top.specs.Linking.{AreCalls, AreNumbered, IsCallFrom, bare, bare_view, names_of, texts_of}

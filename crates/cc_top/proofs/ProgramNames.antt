@@ -9,7 +9,7 @@ use Rattle.std.proofs.lemmas.List.Quantifiers.{all_pairs_push, position-Some}
 use Rattle.std.proofs.lemmas.Option.{slice_get-get_or, get_or_from_slice_get, slice_get_within}
 use Rattle.std.proofs.lemmas.Slice.Eq.{bytes_eq-Decides}
 use Rattle.cc_top.specs.Linking.{texts_of, names_of, AreNumbered, IsCallFrom}
-use Rattle.cc_tree.specs.Program as tree
+use Rattle.cc_first_runs.specs.Program as tree
 use Rattle.cc_top.specs.Views.{name_view}
 use Rattle.cc_top.specs.declared.unit.Name.{Name}
 use Rattle.cc_top.specs.declared.program.Call.{Call}

@@ -6,7 +6,7 @@ use Rattle.std.specs.Str.{bytes_eq}
 use Rattle.std.proofs.lemmas.List.Elements.{All-contains, Contains-append_right}
 use Rattle.std.specs.declared.vec.Vec.{Vec}
 use Rattle.std.specs.declared.alloc.Global.{Global}
-use Rattle.cc_tree.specs.Program as tree
+use Rattle.cc_first_runs.specs.Program as tree
 use Rattle.cc_top.specs.Linking.{AreCalls, AreNumbered, IsCallFrom, bare, bare_view, texts_of}
 use Rattle.cc_top.specs.Listing.{heads_of}
 use Rattle.cc_top.specs.Unit as unit

@@ -6,7 +6,7 @@ use Rattle.std.proofs.lemmas.List.{map-append, length-map, get_or-map}
 use Rattle.std.proofs.lemmas.List.Elements.{All-nil, All-cons, All-head, All-tail, Contains-get_or}
 use Rattle.std.specs.Option.{option_map}
 use Rattle.std.proofs.lemmas.Option.{slice_get-map}
-use Rattle.cc_tree.specs.Program as tree
+use Rattle.cc_first_runs.specs.Program as tree
 use Rattle.cc_top.specs.Answer.{IsLinked}
 use Rattle.cc_top.specs.Linking.{names_of}
 use Rattle.cc_top.specs.Listing.{heads_of, IsWhole}

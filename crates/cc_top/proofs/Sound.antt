@@ -4,9 +4,9 @@ use Rattle.std.specs.Prelude.{Contains, MatchOption}
 use Rattle.std.specs.FinMap.{get}
 use Rattle.std.specs.Io.KnownBytes.{append_known}
 use Rattle.cc_io.specs.Shelf.{Files}
-use Rattle.cc_meaning.specs.Laws.{ListedLeavesNoneOut}
-use Rattle.cc_tree.specs.Couplings.{Row}
-use Rattle.cc_tree.specs.Program.{Program, IsSite}
+use Rattle.cc_first_runs.specs.Laws.{ListedLeavesNoneOut}
+use Rattle.cc_first_runs.specs.Couplings.{Row}
+use Rattle.cc_first_runs.specs.Program.{Program, IsSite}
 use Rattle.cc_top.specs.Answer.{Reply, refused, done, AfterRead, AfterUnit, OfProgram, OfFiles, OfProject, IsAnswer, Holds}
 use Rattle.cc_top.specs.Refusal.{missing_line, long_line}
 use Rattle.cc_top.specs.Listing.{AreLines, IsListing, header, line}

@@ -4,8 +4,8 @@ use Rattle.std.proofs.lemmas.List.{take-append-drop}
 use Rattle.std.proofs.Math.Seq.{take-append_seam, drop-append_seam}
 use Rattle.std.specs.List.{list_all}
 use Rattle.std.specs.Prelude.{if◌then◌else◌, IfSome}
-use Rattle.cc_tree.specs.declared.place.Spot.{Spot}
-use Rattle.cc_tree.specs.Spots.{start, next_spot, spot_behind}
+use Rattle.cc_base.specs.declared.place.Spot.{Spot}
+use Rattle.cc_base.specs.Spots.{start, next_spot, spot_behind}
 use Rattle.cc_top.specs.Names.{is_word_byte}
 use Rattle.cc_top.specs.Cut.{is_white, is_longest, Spelled, IsCut}
 use Rattle.cc_top.specs.Tokens.{is_form_text, token_len, text_of, IsKind, AreTokens, AreFormTokens, Writes, Spells, IsReadTo, IsTokens, NoTokens, IsFirst}

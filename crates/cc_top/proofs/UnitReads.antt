@@ -5,7 +5,7 @@ use Rattle.std.proofs.lemmas.Bool.{eqb-true}
 use Rattle.std.proofs.lemmas.Grind.{flat_map-append}
 use Rattle.std.specs.Prelude.{codes, Some, None}
 use Rattle.std.specs.List.{flat_map}
-use Rattle.cc_tree.specs.Program.{Name}
+use Rattle.cc_first_runs.specs.Program.{Name}
 use Rattle.cc_top.specs.Cut.{Spelled}
 use Rattle.cc_top.specs.Unit.{Part, Declaration, Definition, word, head_tokens, call_tokens, part_tokens, unit_tokens}
 use Rattle.cc_top.specs.Tokens.{AreTokens, Begins, AreWritten}

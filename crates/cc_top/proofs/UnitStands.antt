@@ -10,7 +10,7 @@ use Rattle.std.specs.Borrow.{Bor}
 use Rattle.std.specs.List.{list_any, list_all}
 use Rattle.std.specs.Str.{bytes_eq}
 use Rattle.indexmap.specs.IndexSet.{insert_key}
-use Rattle.cc_tree.specs.Program.{Name}
+use Rattle.cc_first_runs.specs.Program.{Name}
 use Rattle.cc_top.specs.Unit.{Part, Declaration, Definition, CallsStand}
 use Rattle.cc_top.specs.Reads.{is_among, head_text, calls_among, StandTo}
 use Rattle.cc_top.specs.Views.{part_view, parts_view}

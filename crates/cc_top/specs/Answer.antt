@@ -2,7 +2,7 @@
 use Rattle.std.specs.Prelude.{◌≡◌, ◌≢◌, ◌⊎◌, ◌<◌, ◌≤◌, ◌++◌, ℕ, List, [], length, MatchOption, None, Some}
 use Rattle.std.specs.FinMap.{get}
 use Rattle.cc_io.specs.Shelf.{Files}
-use Rattle.cc_tree.specs.Program.{Program}
+use Rattle.cc_first_runs.specs.Program.{Program}
 use Rattle.cc_top.specs.Words.{limit, list_words}
 use Rattle.cc_top.specs.Project.{Project, IsProject}
 use Rattle.cc_top.specs.Unit.{Part, IsUnit, program_of}

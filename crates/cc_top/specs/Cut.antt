@@ -1,8 +1,8 @@
 -- Bytes as tokens with white bytes between them (C17 6.4).
 use Rattle.std.specs.Prelude.{◌≡◌, ◌==◌, ◌&&◌, ◌||◌, ◌++◌, ℕ, List, [], ◌∷◌, Bool, true, false, not, nat_le, Option, IfSome}
 use Rattle.std.specs.List.{list_all}
-use Rattle.cc_tree.specs.declared.place.Spot.{Spot}
-use Rattle.cc_tree.specs.Spots.{spot_behind}
+use Rattle.cc_base.specs.declared.place.Spot.{Spot}
+use Rattle.cc_base.specs.Spots.{spot_behind}
 use Rattle.cc_top.specs.Names.{is_word_byte}
 
 -- space, tab, line feed, vertical tab, form feed and carriage return

@@ -1,9 +1,9 @@
 -- Whole programs, and the table of their couplings.
 use Rattle.std.specs.Prelude.{◌≡◌, ◌≢◌, ◌==◌, ◌+◌, ◌++◌, ℕ, List, [], ◌∷◌, codes, map, All, Contains, AllPairs, if◌then◌else◌}
 use Rattle.std.specs.Fmt.{decimal}
-use Rattle.cc_tree.specs.declared.place.Spot.{Spot}
-use Rattle.cc_tree.specs.Program.{Name, Function, Program, IsFunction, IsSite}
-use Rattle.cc_tree.specs.Couplings.{Row, AreCouplings}
+use Rattle.cc_base.specs.declared.place.Spot.{Spot}
+use Rattle.cc_first_runs.specs.Program.{Name, Function, Program, IsFunction, IsSite}
+use Rattle.cc_first_runs.specs.Couplings.{Row, AreCouplings}
 use Rattle.cc_top.specs.Project.{Component, Project}
 
 -- the names that have a body

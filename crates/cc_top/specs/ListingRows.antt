@@ -4,8 +4,8 @@ use Rattle.std.specs.declared.alloc.Global.{Global}
 use Rattle.std.specs.Fmt.{decimal}
 use Rattle.csv.specs.Writing.{default_writer, writer_setup, fields_written, has_written, writer_under, writer_pending}
 use Rattle.csv.specs.declared.writer.Writer.{Writer}
-use Rattle.cc_tree.specs.Spots.{start}
-use Rattle.cc_tree.specs.Program as tree
+use Rattle.cc_base.specs.Spots.{start}
+use Rattle.cc_first_runs.specs.Program as tree
 use Rattle.cc_top.specs.Listing.{component_of, place_text}
 use Rattle.cc_top.specs.Project.{Project}
 use Rattle.cc_top.specs.Views.{name_view}

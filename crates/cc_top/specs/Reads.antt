@@ -2,8 +2,8 @@
 use Rattle.std.specs.Prelude.{◌≡◌, ◌==◌, ◌&&◌, ◌++◌, ℕ, List, [], ◌∷◌, Bool, true, false, Option, None, Some, if◌then◌else◌, codes, length, drop, slice_get}
 use Rattle.std.specs.List.{flat_map, list_any, list_all}
 use Rattle.std.specs.Str.{bytes_eq}
-use Rattle.cc_tree.specs.declared.place.Spot.{Spot}
-use Rattle.cc_tree.specs.Program.{Name}
+use Rattle.cc_base.specs.declared.place.Spot.{Spot}
+use Rattle.cc_first_runs.specs.Program.{Name}
 use Rattle.cc_top.specs.Names.{is_free_name}
 use Rattle.cc_top.specs.Cut.{Spelled}
 use Rattle.cc_top.specs.Unit.{CallsStand, Part, Declaration, Definition, word, call_tokens, part_tokens, unit_tokens}

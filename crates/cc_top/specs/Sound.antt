@@ -1,11 +1,11 @@
 -- What a table covers: every coupling that any run of the program exercises.
 use Rattle.std.specs.Prelude.{◌≡◌, ◌+◌, ◌++◌, ℕ, List, length}
 use Rattle.cc_io.specs.Shelf.{Files}
-use Rattle.cc_meaning.specs.Exercised.{IsExercised}
-use Rattle.cc_meaning.specs.Laws.{AreCallsOf}
-use Rattle.cc_meaning.specs.Runs.{run}
-use Rattle.cc_tree.specs.Couplings.{Row}
-use Rattle.cc_tree.specs.Program.{Program, IsSite}
+use Rattle.cc_first_runs.specs.Exercised.{IsExercised}
+use Rattle.cc_first_runs.specs.Laws.{AreCallsOf}
+use Rattle.cc_first_runs.specs.Runs.{run}
+use Rattle.cc_first_runs.specs.Couplings.{Row}
+use Rattle.cc_first_runs.specs.Program.{Program, IsSite}
 use Rattle.cc_top.specs.Answer.{Holds, IsLinked}
 use Rattle.cc_top.specs.Listing.{AreLines, IsListing, header, line}
 use Rattle.cc_top.specs.Project.{Project, IsProject}

@@ -1,8 +1,8 @@
 -- The tokens of the first form, and the spelled tokens that they are written as.
 use Rattle.std.specs.Prelude.{◌≡◌, ◌≤◌, if◌then◌else◌, ◌==◌, ◌||◌, ℕ, suc, List, [], ◌∷◌, Bool, true, false, length, codes, take, IfSome}
 use Rattle.std.specs.Str.{bytes_eq}
-use Rattle.cc_tree.specs.declared.place.Spot.{Spot}
-use Rattle.cc_tree.specs.Spots.{start}
+use Rattle.cc_base.specs.declared.place.Spot.{Spot}
+use Rattle.cc_base.specs.Spots.{start}
 use Rattle.cc_top.specs.Names.{is_word_byte, is_free_name}
 use Rattle.cc_top.specs.Cut.{Spelled, IsCut, begins_word}
 use Rattle.cc_top.specs.declared.token.Mark.{Mark}

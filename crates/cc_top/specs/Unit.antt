@@ -2,8 +2,8 @@
 --   { "void" ID "(" "void" ")" ( ";" | "{" { ID "(" ")" ";" } "}" ) }
 use Rattle.std.specs.Prelude.{◌≡◌, ◌++◌, ℕ, List, [], ◌∷◌, true, None, Some, codes, All, Contains}
 use Rattle.std.specs.List.{flat_map}
-use Rattle.cc_tree.specs.Spots.{start}
-use Rattle.cc_tree.specs.Program.{Name, Program}
+use Rattle.cc_base.specs.Spots.{start}
+use Rattle.cc_first_runs.specs.Program.{Name, Program}
 use Rattle.cc_top.specs.Names.{is_free_name}
 use Rattle.cc_top.specs.Cut.{Spelled, IsCut}
 

@@ -1,7 +1,7 @@
 -- What the values of the code stand for.
 use Rattle.std.specs.Prelude.{◌≡◌, ◌==◌, ◌+◌, ℕ, List, [], ◌∷◌, map, filter}
-use Rattle.cc_tree.specs.Program as tree
-use Rattle.cc_tree.specs.Couplings.{Row}
+use Rattle.cc_first_runs.specs.Program as tree
+use Rattle.cc_first_runs.specs.Couplings.{Row}
 use Rattle.cc_top.specs.Project as project
 use Rattle.cc_top.specs.Unit as unit
 use Rattle.cc_top.specs.declared.project.Component.{Component}

@@ -14,7 +14,7 @@ ghost use Rattle.cc_top.specs.Words.{list_words};
 use crate::refusal::Refusal;
 use crate::steps::text_for;
 use cc_io::{Shelf, Sink, SinkFault};
-use cc_meaning::laws::listed_leaves_none_out;
+use cc_first_runs::laws::listed_leaves_none_out;
 use std::alloc::Global;
 
 // Puts a line, and answers the status that this gives.

@@ -15,7 +15,7 @@ use crate::paths::coupling_calls;
 use crate::program::{Call, Program, link};
 use crate::project::{Component, Project};
 use crate::unit::Part;
-use cc_tree::{FileId, Spot};
+use cc_base::{FileId, Spot};
 use csv::{Error as CsvError, Writer, WriterBuilder};
 use std::alloc::{AllocError, Global};
 

@@ -1,8 +1,8 @@
 // Which calls a path from the root can reach.
 ghost use Rattle.std.specs.Prelude.{◌≡◌, ◌<◌, ◌+◌, ◌*◌, ◌^◌, ◌++◌, ◌⊎◌, ◌↔◌, ℕ, List, [], ◌∷◌, All, Contains, Some, IfOk, OnOk, length, slice_get, if◌then◌else◌};
 ghost use Rattle.cc_base.specs.Edges.{IsMarked};
-ghost use Rattle.cc_tree.specs.Couplings.{AreCouplings, Row};
-ghost use Rattle.cc_tree.specs.Points.{At, IsLive, IsReachable};
+ghost use Rattle.cc_first_runs.specs.Couplings.{AreCouplings, Row};
+ghost use Rattle.cc_first_runs.specs.Points.{At, IsLive, IsReachable};
 ghost use Rattle.cc_top.specs.Linked.{IsSound};
 ghost use Rattle.cc_top.specs.Numbers.{HasCall, IsEdgeOf, IsThrough, before_of, is_last_call, place};
 ghost use Rattle.cc_top.specs.Views.{AreCallsOf, program_view};

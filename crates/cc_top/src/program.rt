@@ -9,7 +9,7 @@ ghost use Rattle.cc_top.specs.Unit.{functions_of, program_of};
 ghost use Rattle.cc_top.specs.Views.{name_view, parts_view, program_view};
 
 use crate::unit::{Name, Part};
-use cc_tree::FileId;
+use cc_base::FileId;
 use indexmap::IndexSet;
 use std::alloc::{AllocError, Global};
 

@@ -1,7 +1,7 @@
 // Why the call gives up before it has a text.
 ghost use Rattle.std.specs.Prelude.{◌≡◌, IfOk, string_bytes};
 
-use cc_tree::Text;
+use cc_base::Text;
 use std::alloc::{AllocError, Global};
 
 #[derive(Debug, Drop)]

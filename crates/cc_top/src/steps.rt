@@ -24,7 +24,7 @@ use crate::project::{Project, read_project};
 use crate::refusal::Refusal;
 use crate::unit::{Part, read_unit};
 use cc_io::{ByteList, Found, Shelf, ShelfFault};
-use cc_tree::Text;
+use cc_base::Text;
 use std::alloc::{AllocError, Global};
 use toml::Table;
 

@@ -7,7 +7,7 @@ ghost use Rattle.cc_top.specs.Cut as cut;
 ghost use Rattle.cc_top.specs.Tokens as tokens;
 ghost use Rattle.cc_top.specs.Words.{limit};
 
-use cc_tree::Spot;
+use cc_base::Spot;
 use std::alloc::{AllocError, Global};
 use std::str;
 

@@ -9,7 +9,7 @@ ghost use Rattle.cc_top.specs.Unit.{IsUnit, Part as PartData};
 ghost use Rattle.cc_top.specs.Views.{name_view, part_view, parts_view};
 
 use crate::token::{Kind, Mark, Token, read_tokens};
-use cc_tree::Spot;
+use cc_base::Spot;
 use indexmap::IndexSet;
 use std::alloc::{AllocError, Global};
 

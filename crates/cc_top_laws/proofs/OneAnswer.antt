@@ -5,7 +5,7 @@ use Rattle.std.specs.FinMap.{get}
 use Rattle.std.proofs.lemmas.Option.{same_Some, slice_get_within}
 use Rattle.std.proofs.lemmas.Bool.{cases_eq}
 use Rattle.cc_io.specs.Shelf.{Files}
-use Rattle.cc_tree.specs.Program.{Function, Program}
+use Rattle.cc_first_runs.specs.Program.{Function, Program}
 use Rattle.cc_top.specs.Words.{limit, list_words}
 use Rattle.cc_top.specs.Project.{Project}
 use Rattle.cc_top.specs.Unit.{Part, program_of}

@@ -2,8 +2,8 @@
 use Rattle.std.proofs.Common.{◌≡◌, ℕ, Option, Some, None, IfSome, Bool, true, false, List, [], ◌∷◌, ◌++◌, length, take, drop, refl, sym, ap, subst, ◌∙◌}
 use Rattle.std.proofs.Math.Seq.{take-append_seam, drop-append_seam}
 use Rattle.std.specs.List.{list_all}
-use Rattle.cc_tree.specs.declared.place.Spot.{Spot}
-use Rattle.cc_tree.specs.Spots.{spot_behind}
+use Rattle.cc_base.specs.declared.place.Spot.{Spot}
+use Rattle.cc_base.specs.Spots.{spot_behind}
 use Rattle.cc_top.specs.Cut.{is_white, is_longest, Spelled, IsCut}
 use Rattle.cc_top.specs.Tokens.{is_form_text, token_len, AreFormTokens}
 use Rattle.cc_top_laws.proofs.TokenTexts.{and_true, form_len, form_no_white}

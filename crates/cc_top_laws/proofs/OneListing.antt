@@ -3,8 +3,8 @@ use Rattle.std.proofs.Common.{◌≡◌, ◌⊎◌, ◌+◌, ◌++◌, ℕ, zero
 use Rattle.std.specs.Prelude.{Contains, slice_get}
 use Rattle.std.proofs.lemmas.Option.{same_Some}
 use Rattle.std.proofs.lemmas.List.Elements.{All-contains}
-use Rattle.cc_tree.specs.Program.{Name, Function, Program, IsSite}
-use Rattle.cc_tree.specs.Couplings.{Row, IsBefore, IsOrdered}
+use Rattle.cc_first_runs.specs.Program.{Name, Function, Program, IsSite}
+use Rattle.cc_first_runs.specs.Couplings.{Row, IsBefore, IsOrdered}
 use Rattle.cc_top.specs.Project.{Project}
 use Rattle.cc_top.specs.Listing.{IsListing, AreLines, header, line}
 

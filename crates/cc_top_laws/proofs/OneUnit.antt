@@ -1,9 +1,9 @@
 -- Bytes spell the parts of at most one file of the first form.
 use Rattle.std.proofs.Common.{◌≡◌, ℕ, true, false, List, [], ◌∷◌, ◌++◌, refl, sym, ap, subst, ◌∙◌}
 use Rattle.std.specs.Prelude.{codes}
-use Rattle.cc_tree.specs.declared.place.Spot.{Spot}
-use Rattle.cc_tree.specs.Spots.{start}
-use Rattle.cc_tree.specs.Program.{Name}
+use Rattle.cc_base.specs.declared.place.Spot.{Spot}
+use Rattle.cc_base.specs.Spots.{start}
+use Rattle.cc_first_runs.specs.Program.{Name}
 use Rattle.cc_top.specs.Names.{is_free_name}
 use Rattle.cc_top.specs.Cut.{Spelled}
 use Rattle.cc_top.specs.Unit.{Part, Declaration, Definition, unit_tokens}

@@ -3,7 +3,7 @@ use Rattle.std.proofs.Common.{◌≡◌, Bool, true, false, ◌||◌, List, [], 
 use Rattle.std.proofs.lemmas.List.Elements.{recursion_from_All}
 use Rattle.std.specs.Prelude.{All}
 use Rattle.std.specs.List.{flat_map, AllByRecursion}
-use Rattle.cc_tree.specs.Program.{Name}
+use Rattle.cc_first_runs.specs.Program.{Name}
 use Rattle.cc_top.specs.Names.{is_free_name}
 use Rattle.cc_top.specs.Cut.{Spelled}
 use Rattle.cc_top.specs.Unit.{Part, Declaration, Definition, part_tokens, unit_tokens, names_of_part, IsUnit}

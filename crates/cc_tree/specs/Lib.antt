@@ -1,4 +1,6 @@
-pub mod Couplings
-pub mod Points
-pub mod Program
-pub mod Spots
+pub mod Trees
+pub mod Views
+pub mod Depth
+pub mod Nodes
+pub mod Renoted
+pub mod Types

@@ -1,18 +1,25 @@
-//! The words that all crates share: texts, lists, places in files, and the numbers of files and components.
+//! The syntax trees of C files, as the grammar of the profile has them.
 //!
-//! A [`Text`] is a name or another text, [`Bytes`] are those of a string literal, a [`List`] is a list of items of one
-//! type: contracts see each as a list. A [`Spot`] is a line and a column of one file, a [`Place`] is a spot with its
-//! file. `FileId` and `CompId` number files and components from 0 in the order of the project file.
+//! One generic family with a note in each node: [`Expr`], [`TypeName`], [`Declarator`], [`Spec`] and what they hold,
+//! [`Value`], [`Declaration`], [`Stmt`], [`Block`], [`External`], and [`FileTree`] over all. [`Unit`] is the tree as it is
+//! written, where a note is the node's spot; a numbered tree has the same shape, and a number in each note too. A tree keeps
+//! each specifier and each optional comma as it stands, and parentheses are nodes.
+//!
+//! Contracts see a tree by `view` as a plain one (`specs/Trees.antt`). `docs/grammar.md` has the chapter.
 #![tactic(auto)]
 
-mod bytes;
-mod list;
-mod memory;
-mod place;
-mod text;
+mod ctype;
+mod declaration;
+mod expr;
+mod ids;
+mod note;
+mod operator;
+mod stmt;
 
-pub use bytes::Bytes;
-pub use list::List;
-pub use memory::Memory;
-pub use place::{CompId, FileId, Place, Spot};
-pub use text::Text;
+pub use ctype::CType;
+pub use declaration::{Declaration, Init, Value};
+pub use expr::{Constant, Declarator, Expr, Member, Spec, TypeName};
+pub use ids::{FuncId, Occ, StructId, VarId};
+pub use note::{Referent, Unit};
+pub use operator::{AssignOp, BinaryOp, Side, SpecWord, StepOp, UnaryOp};
+pub use stmt::{Block, External, FileTree, ForStart, Function, Item, Stmt};

@@ -1,5 +1,5 @@
 use Rattle.std.proofs.Common.{◌≡◌, ◌≤◌, ◌+◌, length}
-use Rattle.cc_tree.specs.Spots.{spot_behind}
+use Rattle.cc_base.specs.Spots.{spot_behind}
 use Rattle.cc_lex.proofs.spot.spot_after.Given as goal
 
 abbrev pub invariant-loop-z : goal.invariant-loop-z

@@ -1,6 +1,6 @@
 use Rattle.std.proofs.Common.{◌≡◌, drop}
 use Rattle.cc_grammar.specs.Names as typedefs
-use Rattle.cc_syntax.specs.Views.{specs_of}
+use Rattle.cc_tree.specs.Views.{specs_of}
 use Rattle.cc_parse_files.proofs.declaration.has_typedef.Given as goal
 
 abbrev pub invariant-loop-spec : goal.invariant-loop-spec

@@ -3,8 +3,8 @@ use Rattle.std.proofs.lemmas.Grind.{common_steps}
 use Rattle.std.proofs.lemmas.List.{map_push}
 use Rattle.std.proofs.lemmas.Result.{err_from_is_err_and}
 use Rattle.cc_grammar.specs.Names as typedefs
-use Rattle.cc_syntax.specs.Trees.{init}
-use Rattle.cc_syntax.specs.Views.{view_declarator, view_init, view_value}
+use Rattle.cc_tree.specs.Trees.{init}
+use Rattle.cc_tree.specs.Views.{view_declarator, view_init, view_value}
 use Rattle.cc_parse_tokens.proofs.Turns.{one_more, no_more}
 use Rattle.cc_parse_files.specs.Turns.{inits_from}
 use Rattle.cc_parse_files.proofs.InitTurns.{inits_is, after_push, value_fails, last_one, next_fails, goes_on}

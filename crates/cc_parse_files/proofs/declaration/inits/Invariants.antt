@@ -1,7 +1,7 @@
 use Rattle.std.proofs.Common.{◌≡◌, ◌-◌, map}
 use Rattle.cc_grammar.specs.Names as typedefs
 use Rattle.cc_grammar.specs.Reading as spec
-use Rattle.cc_syntax.specs.Views.{view_declarator, view_init}
+use Rattle.cc_tree.specs.Views.{view_declarator, view_init}
 use Rattle.cc_parse_files.specs.Turns.{inits_from}
 use Rattle.cc_parse_files.proofs.declaration.inits.Given as goal
 

@@ -2,7 +2,7 @@ use Rattle.std.proofs.Common.{rules, ◌≡◌, ◌-◌, ◌+◌, suc, refl, sym
 use Rattle.std.proofs.lemmas.Grind.{common_steps}
 use Rattle.std.proofs.lemmas.List.{map_push}
 use Rattle.std.proofs.lemmas.Result.{err_from_is_err_and}
-use Rattle.cc_syntax.specs.Views.{view_external}
+use Rattle.cc_tree.specs.Views.{view_external}
 use Rattle.cc_parse_tokens.proofs.Turns.{one_more, no_more}
 use Rattle.cc_parse_files.specs.Turns.{externals_from}
 use Rattle.cc_parse_files.proofs.ExternalTurns.{externals_is, all_read, one_fails, one_read}

@@ -1,6 +1,6 @@
 use Rattle.std.proofs.Common.{◌≡◌, ◌-◌, suc, length, map}
 use Rattle.cc_grammar.specs.Reading as spec
-use Rattle.cc_syntax.specs.Views.{view_external}
+use Rattle.cc_tree.specs.Views.{view_external}
 use Rattle.cc_parse_files.specs.Turns.{externals_from}
 use Rattle.cc_parse_files.proofs.file.externals.Given as goal
 

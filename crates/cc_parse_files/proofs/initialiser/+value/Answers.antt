@@ -1,7 +1,7 @@
 use Rattle.std.proofs.Common.{rules, ◌≡◌, ◌-◌, refl, [], length, map, arith}
 use Rattle.std.proofs.lemmas.Grind.{common_steps}
 use Rattle.cc_grammar.specs.Reading as spec
-use Rattle.cc_syntax.specs.Views.{view_value}
+use Rattle.cc_tree.specs.Views.{view_value}
 use Rattle.cc_parse_tokens.specs.Turns.{enclosed_from}
 use Rattle.cc_parse_tokens.proofs.ByTurns.{enclosed_by_is}
 use Rattle.cc_parse_tokens.proofs.Turns.{one_more, no_more}

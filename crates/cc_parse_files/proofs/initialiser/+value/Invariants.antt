@@ -1,6 +1,6 @@
 use Rattle.std.proofs.Common.{◌≡◌, ◌-◌, ◌+◌, ◌*◌, length, map}
 use Rattle.cc_grammar.specs.Reading as spec
-use Rattle.cc_syntax.specs.Views.{view_value}
+use Rattle.cc_tree.specs.Views.{view_value}
 use Rattle.cc_parse_tokens.specs.Turns.{enclosed_from}
 use Rattle.cc_parse_files.proofs.initialiser.+value.Given as goal
 

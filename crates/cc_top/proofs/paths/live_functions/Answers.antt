@@ -6,7 +6,7 @@ use Rattle.std.proofs.lemmas.Result.{IfOk-weaker}
 use Rattle.cc_base.specs.declared.reach.Edge.{Edge}
 use Rattle.cc_base.specs.Edges.{AreBelow, IsMarked, Leads}
 use Rattle.cc_base.specs.Paths.{Reaches}
-use Rattle.cc_tree.specs.Points.{IsLive}
+use Rattle.cc_first_runs.specs.Points.{IsLive}
 use Rattle.cc_top.specs.Views.{program_view}
 use Rattle.cc_top.proofs.PathEdges.{call_edges_whole}
 use Rattle.cc_top.proofs.PathSites.{edges_below, reaches_live}

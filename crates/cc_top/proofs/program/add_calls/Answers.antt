@@ -1,6 +1,6 @@
 use Rattle.std.proofs.Common.{List, ◌++◌, refl, sym, ap, ◌∙◌, subst, append_assoc, map, All, Contains}
 use Rattle.std.specs.List.{AllZip}
-use Rattle.cc_tree.specs.Program as tree
+use Rattle.cc_first_runs.specs.Program as tree
 use Rattle.cc_top.specs.Linking.{AreCalls, IsCallFrom, names_of}
 use Rattle.cc_top.specs.Views.{name_view}
 use Rattle.cc_top.specs.declared.unit.Name.{Name}

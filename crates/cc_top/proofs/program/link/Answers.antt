@@ -1,5 +1,5 @@
 use Rattle.std.proofs.Common.{◌≡◌, ◌++◌, [], refl, sym, ap, map}
-use Rattle.cc_tree.specs.Program as tree
+use Rattle.cc_first_runs.specs.Program as tree
 use Rattle.cc_top.specs.Linking.{bare, bare_view, names_of, texts_of}
 use Rattle.cc_top.specs.Listing.{heads_of}
 use Rattle.cc_top.specs.Unit.{functions_of}

@@ -1,5 +1,5 @@
 use Rattle.std.proofs.lemmas.Result.{err_from_is_err_and}
-use Rattle.cc_syntax.specs.Views.{view}
+use Rattle.cc_tree.specs.Views.{view}
 use Rattle.cc_grammar.specs.Reading as spec
 use Rattle.cc_parse_expr.specs.Modes.{inner_at}
 use Rattle.cc_parse_expr.proofs.ListLoops.{separating, separated_fails, separated_ends, separated_goes, separated_over}

@@ -1,7 +1,7 @@
 use Rattle.std.proofs.Common.{refl, arith}
 use Rattle.std.proofs.lemmas.Result.{err_from_is_err_and}
 use Rattle.cc_grammar.specs.Reading as spec
-use Rattle.cc_syntax.specs.Views.{view}
+use Rattle.cc_tree.specs.Views.{view}
 use Rattle.cc_parse_expr.specs.Modes.{inner_at}
 use Rattle.cc_parse_expr.proofs.Climbing.{climb_goes, climb_fails, climb_ends, climb_deeper}
 use Rattle.cc_parse_expr.proofs.grammar.Grammar.climb.Goals as goal

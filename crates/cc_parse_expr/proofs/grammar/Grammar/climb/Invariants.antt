@@ -1,7 +1,7 @@
 use Rattle.std.proofs.Common.{◌-◌}
 use Rattle.cc_grammar.specs.Reading as spec
-use Rattle.cc_syntax.specs.Depth.{expr_depth}
-use Rattle.cc_syntax.specs.Views.{view}
+use Rattle.cc_tree.specs.Depth.{expr_depth}
+use Rattle.cc_tree.specs.Views.{view}
 use Rattle.cc_parse_expr.specs.Modes.{inner_at}
 use Rattle.cc_parse_expr.proofs.Climbing.{Climbing}
 use Rattle.cc_parse_expr.proofs.grammar.Grammar.climb.Given as goal

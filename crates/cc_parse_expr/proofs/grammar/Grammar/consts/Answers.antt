@@ -10,11 +10,11 @@ loop-turn-init g c =
     let d = c.args.self.now.depth in
     record { small = omega arith; reads = starting names (inner_at names d) d c.args.tokens.now c.len-turn-end.result c.len-turn-end.ensures.value }
 
-pub returns-then-not-next_is_key : goal.returns-then-not-next_is_key
-returns-then-not-next_is_key g c =
+pub returns-then-not-next_is_keyword : goal.returns-then-not-next_is_keyword
+returns-then-not-next_is_keyword g c =
     let names = c.args.self.now.names.now in
     let d = c.args.self.now.depth in
-    stops names (inner_at names d) d (spec.consts names (inner_at names d) d c.args.tokens.now) c.loop-turn.count c.len-turn-end.result c.loop-turn._turn c.loop-turn.tokens c.loop-turn-test.true c.loop-turn.invariant.reads c.if-not-next_is_key.ensures
+    stops names (inner_at names d) d (spec.consts names (inner_at names d) d c.args.tokens.now) c.loop-turn.count c.len-turn-end.result c.loop-turn._turn c.loop-turn.tokens c.loop-turn-test.true c.loop-turn.invariant.reads c.if-not-next_is_keyword.ensures
 
 pub loop-turn-preserved : goal.loop-turn-preserved
 loop-turn-preserved g c =
@@ -22,7 +22,7 @@ loop-turn-preserved g c =
     let d = c.args.self.now.depth in
     record {
       small = omega (arith, c.loop-turn.invariant.small);
-      reads = rw c.skip.ensures (counts names (inner_at names d) d (spec.consts names (inner_at names d) d c.args.tokens.now) c.loop-turn.count c.len-turn-end.result c.loop-turn._turn c.loop-turn.tokens c.loop-turn-test.true c.loop-turn.invariant.reads c.if-not-next_is_key.ensures);
+      reads = rw c.skip.ensures (counts names (inner_at names d) d (spec.consts names (inner_at names d) d c.args.tokens.now) c.loop-turn.count c.len-turn-end.result c.loop-turn._turn c.loop-turn.tokens c.loop-turn-test.true c.loop-turn.invariant.reads c.if-not-next_is_keyword.ensures);
     }
 
 pub returns : goal.returns

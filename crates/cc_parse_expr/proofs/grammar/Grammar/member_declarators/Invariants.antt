@@ -1,4 +1,4 @@
-use Rattle.cc_syntax.specs.Views.{view_declarator}
+use Rattle.cc_tree.specs.Views.{view_declarator}
 use Rattle.cc_grammar.specs.Reading as spec
 use Rattle.cc_parse_expr.specs.Modes.{inner_at}
 use Rattle.cc_parse_expr.proofs.ListLoops.{Separating}

@@ -1,6 +1,6 @@
 use Rattle.std.proofs.Common.{ap}
 use Rattle.std.proofs.lemmas.Result.{err_from_is_err_and}
-use Rattle.cc_syntax.specs.Views.{view_member}
+use Rattle.cc_tree.specs.Views.{view_member}
 use Rattle.cc_grammar.specs.Reading as spec
 use Rattle.cc_parse_expr.specs.Modes.{inner_at}
 use Rattle.cc_parse_expr.proofs.ListLoops.{repeating, repeated_fails, repeated_ends, repeated_goes, repeated_over}

@@ -1,5 +1,5 @@
 use Rattle.std.proofs.lemmas.Result.{err_from_is_err_and}
-use Rattle.cc_syntax.specs.Views.{view_spec}
+use Rattle.cc_tree.specs.Views.{view_spec}
 use Rattle.cc_grammar.specs.Reading as spec
 use Rattle.cc_grammar.specs.Classes.{starts_spec}
 use Rattle.cc_parse_expr.specs.Parts as part

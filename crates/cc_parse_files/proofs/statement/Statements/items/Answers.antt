@@ -4,7 +4,7 @@ use Rattle.std.proofs.lemmas.List.{map_push}
 use Rattle.std.proofs.lemmas.Result.{err_from_is_err_and}
 use Rattle.cc_grammar.specs.Names as typedefs
 use Rattle.cc_grammar.specs.Reading as spec
-use Rattle.cc_syntax.specs.Views.{view_item}
+use Rattle.cc_tree.specs.Views.{view_item}
 use Rattle.cc_parse_tokens.proofs.Turns.{one_more, no_more}
 use Rattle.cc_parse_files.specs.Parts.{items_in}
 use Rattle.cc_parse_files.specs.Turns.{items_from}

@@ -1,7 +1,7 @@
 use Rattle.std.proofs.Common.{◌≡◌, ◌-◌, map}
 use Rattle.cc_grammar.specs.Names as typedefs
 use Rattle.cc_grammar.specs.Reading as spec
-use Rattle.cc_syntax.specs.Views.{view_item, gathered_items}
+use Rattle.cc_tree.specs.Views.{view_item, gathered_items}
 use Rattle.cc_parse_files.specs.Turns.{items_from}
 use Rattle.cc_parse_files.proofs.statement.Statements.items.Given as goal
 

@@ -1,0 +1,10 @@
+pub mod Couplings
+pub mod Events
+pub mod Exercised
+pub mod Laws
+pub mod Parts
+pub mod Points
+pub mod Program
+pub mod Runs
+pub mod Walks
+pub mod Stacks

@@ -1,5 +1,0 @@
-use Rattle.cc_meaning.proofs.Positions.{exercised_are_couplings}
-use Rattle.cc_meaning.proofs.laws.exercised_are_couplings.Goals as goal
-
-pub returns : goal.returns
-returns c = exercised_are_couplings

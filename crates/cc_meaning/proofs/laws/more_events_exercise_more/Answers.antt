@@ -1,5 +1,0 @@
-use Rattle.cc_meaning.proofs.Positions.{more_events_exercise_more}
-use Rattle.cc_meaning.proofs.laws.more_events_exercise_more.Goals as goal
-
-pub returns : goal.returns
-returns c = more_events_exercise_more

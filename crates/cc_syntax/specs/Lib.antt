@@ -1,6 +1,0 @@
-pub mod Trees
-pub mod Views
-pub mod Depth
-pub mod Nodes
-pub mod Renoted
-pub mod Types
