@@ -10,5 +10,6 @@ Leads edges a b = Contains edges (record { from = a; to = b })
 abbrev pub AreBelow : ℕ → List Edge → Type 0
 AreBelow points edges = All (λ edge. (edge.from < points) × (edge.to < points)) edges
 
+-- this point is marked
 abbrev pub IsMarked : List Bool → ℕ → Type 0
 IsMarked marks point = slice_get marks point ≡ Some true

@@ -3,7 +3,8 @@ ghost use Rattle.std.specs.Prelude.{◌≡◌, ℕ, List};
 
 use std::marker::Model;
 
-/// Bytes, as a string literal has them. A contract sees them as a list.
+/// Bytes, each from 0 to 255: those of a file, or the values of a string literal's characters. They need not be a text.
+/// A contract sees them as a list. The crate `cc_io` has this type under the name `ByteList`.
 #[derive(Debug, Drop)]
 pub struct Bytes {
     bytes: Vec<u8>,

@@ -74,13 +74,13 @@ mod tests {
     #[test]
     fn lists(rt: HostRuntime) -> Result<(), Fail> {
         let mut list = List::new(rt.alloc());
-        assert_eq!(rt; list.len(), 0);
+        assert!(rt; list.len() == 0);
         for word in [b"one", b"two"] {
             list.push(Bytes::new(word.to_vec(rt.alloc())?))?;
         }
-        assert_eq!(rt; list.len(), 2);
-        assert_eq!(rt; list.get(1).bytes(), b"two".as_slice());
-        assert_eq!(rt; list.as_slice().len(), 2);
+        assert!(rt; list.len() == 2);
+        assert!(rt; list.get(1).bytes() == b"two".as_slice());
+        assert!(rt; list.as_slice().len() == 2);
         Ok(())
     }
 }

@@ -1,7 +1,8 @@
 // Want of memory.
 use std::alloc::{AllocError, AllocFailed};
 
-/// Memory was wanting. No clause says when this comes: it is tied to no refused growth.
+/// Memory was wanting. No clause says when this comes: it is tied to no refused growth. The crate `cc_io` has this type
+/// too, under the same name.
 #[derive(Clone, Copy, Debug, PartialEq, Eq)]
 pub struct Memory;
 

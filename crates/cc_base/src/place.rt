@@ -9,10 +9,12 @@ pub struct FileId(pub u32);
 #[derive(Clone, Copy, Debug, PartialEq, Eq)]
 pub struct CompId(pub u32);
 
-/// A line and a column of a file, both counted from 1, columns in bytes. A tab is one column.
+/// A line and a column of a file. A tab is one column.
 #[derive(Clone, Copy, Debug, PartialEq, Eq)]
 pub struct Spot {
+    /// The line, counted from 1.
     pub line: u32,
+    /// The column in bytes, counted from 1.
     pub column: u32,
 }
 
@@ -49,8 +51,11 @@ impl Spot {
 /// A spot in a file of the project.
 #[derive(Clone, Copy, Debug, PartialEq, Eq)]
 pub struct Place {
+    /// The file.
     pub file: FileId,
+    /// The line in it, counted from 1.
     pub line: u32,
+    /// The column in bytes, counted from 1.
     pub column: u32,
 }
 
@@ -73,19 +78,25 @@ impl Place {
 mod tests {
     use super::*;
 
-    #[test]
-    fn spots(rt: HostRuntime) {
-        // The spots of the bytes of "a", tab, "b", line feed, line feed, "c" and of the end.
+    // Whether the bytes of "a", tab, "b", line feed, line feed, "c" and the end stand where they do in a file.
+    fn counts_lines_and_columns() -> bool {
         let want = [(1, 1), (1, 2), (1, 3), (1, 4), (2, 1), (3, 1), (3, 2)];
         let mut spot = Spot::start();
         for (i, (line, column)) in want.iter().enumerate() {
             let place = Place::new(FileId(7), spot);
-            assert_eq!(rt; (place.line, place.column), (*line, *column), "byte {i}");
-            assert_eq!(rt; place.file, FileId(7));
+            if (place.file, place.line, place.column) != (FileId(7), *line, *column) {
+                return false;
+            }
             match b"a\tb\n\nc".get(i) {
                 Some(byte) if spot.line < 9 && spot.column < 9 => spot = spot.next(*byte),
                 _ => {}
             }
         }
+        true
+    }
+
+    #[test]
+    fn spots(rt: HostRuntime) {
+        assert!(rt; counts_lines_and_columns());
     }
 }

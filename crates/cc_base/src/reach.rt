@@ -9,7 +9,9 @@ use std::alloc::{AllocError, Global};
 /// An edge leads from a point to a point. Points are numbers from 0.
 #[derive(Clone, Copy, Debug, PartialEq, Eq)]
 pub struct Edge {
+    /// The point at which it begins.
     pub from: usize,
+    /// The point to which it leads.
     pub to: usize,
 }
 
@@ -104,58 +106,55 @@ mod tests {
             .all(|edge| edge.from < points && edge.to < points)
     }
 
-    // Each graph with its number of points, its edges, a start, and the points that can be reached from there.
-    #[test]
-    fn reaches(rt: HostRuntime) -> Result<(), Fail> {
-        let cases: [(usize, &[(usize, usize)], usize, &[bool]); 8] = [
-            // A point alone, without and with an edge to itself.
-            (1, &[], 0, &[true]),
-            (1, &[(0, 0)], 0, &[true]),
-            // The start has no edge, and neither end of the other edge is reached.
-            (3, &[(1, 2)], 0, &[true, false, false]),
-            // A chain from its middle, where a point leads to itself.
-            (
-                4,
-                &[(0, 1), (1, 2), (1, 1), (2, 3)],
-                1,
-                &[false, true, true, true],
-            ),
-            // A cycle, with a point that leads into it and one to which it leads.
-            (
-                5,
-                &[(0, 1), (1, 2), (2, 3), (3, 1), (3, 4)],
-                2,
-                &[false, true, true, true, true],
-            ),
-            // An edge from an unreached point leads to a reached one.
-            (3, &[(2, 1), (0, 1)], 0, &[true, true, false]),
-            // Several edges between the same two points, in both directions.
-            (
-                3,
-                &[(0, 2), (0, 2), (2, 0), (0, 2)],
-                0,
-                &[true, false, true],
-            ),
-            // Two ways to one point, and edges that are listed before the point that leads to them is reached.
-            (
-                6,
-                &[(4, 5), (3, 4), (1, 3), (2, 3), (0, 2), (0, 1)],
-                0,
-                &[true, true, true, true, true, true],
-            ),
-        ];
-        for (points, pairs, start, expected) in cases {
-            let mut edges = Vec::new(rt.alloc());
-            for (from, to) in pairs {
-                edges.push(Edge {
-                    from: *from,
-                    to: *to,
-                })?;
-            }
-            assert!(rt; are_below(points, &edges) && start < points);
-            let marks = reachable(rt.alloc(), points, &edges, start)?;
-            assert_eq!(rt; marks.as_slice(), expected, "from {start} over {edges:?}");
+    // Whether just the points of `expected` can be reached from the start over these edges.
+    fn reaches(
+        alloc: Global,
+        pairs: &[(usize, usize)],
+        start: usize,
+        expected: &[bool],
+    ) -> Result<bool, AllocError> {
+        let mut edges = Vec::new(alloc);
+        for (from, to) in pairs {
+            edges.push(Edge {
+                from: *from,
+                to: *to,
+            })?;
         }
+        if !are_below(expected.len(), &edges) || start >= expected.len() {
+            return Ok(false);
+        }
+        let marks = reachable(alloc, expected.len(), &edges, start)?;
+        Ok(marks.as_slice() == expected)
+    }
+
+    #[test]
+    fn few_edges(rt: HostRuntime) -> Result<(), Fail> {
+        let alloc = rt.alloc();
+        // A point alone, without and with an edge to itself.
+        assert!(rt; reaches(alloc, &[], 0, &[true])?);
+        assert!(rt; reaches(alloc, &[(0, 0)], 0, &[true])?);
+        // The start has no edge, and neither end of the other edge is reached.
+        assert!(rt; reaches(alloc, &[(1, 2)], 0, &[true, false, false])?);
+        // An edge from an unreached point leads to a reached one.
+        assert!(rt; reaches(alloc, &[(2, 1), (0, 1)], 0, &[true, true, false])?);
+        Ok(())
+    }
+
+    #[test]
+    fn ways(rt: HostRuntime) -> Result<(), Fail> {
+        let alloc = rt.alloc();
+        // A chain from its middle, where a point leads to itself.
+        let chain = [(0, 1), (1, 2), (1, 1), (2, 3)];
+        assert!(rt; reaches(alloc, &chain, 1, &[false, true, true, true])?);
+        // A cycle, with a point that leads into it and one to which it leads.
+        let cycle = [(0, 1), (1, 2), (2, 3), (3, 1), (3, 4)];
+        assert!(rt; reaches(alloc, &cycle, 2, &[false, true, true, true, true])?);
+        // Several edges between the same two points, in both directions.
+        let several = [(0, 2), (0, 2), (2, 0), (0, 2)];
+        assert!(rt; reaches(alloc, &several, 0, &[true, false, true])?);
+        // Two ways to one point, and edges that are listed before the point that leads to them is reached.
+        let two_ways = [(4, 5), (3, 4), (1, 3), (2, 3), (0, 2), (0, 1)];
+        assert!(rt; reaches(alloc, &two_ways, 0, &[true, true, true, true, true, true])?);
         Ok(())
     }
 }

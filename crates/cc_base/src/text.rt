@@ -49,9 +49,9 @@ mod tests {
     #[test]
     fn texts(rt: HostRuntime) -> Result<(), Fail> {
         let text = Text::new(String::from_str(rt.alloc(), "valve_1")?);
-        assert_eq!(rt; text.as_str(), "valve_1");
+        assert!(rt; text.as_str() == "valve_1");
         let line = format!(in rt.alloc(); "{text}: missing")?;
-        assert_eq!(rt; line.as_str(), "valve_1: missing");
+        assert!(rt; line.as_str() == "valve_1: missing");
         Ok(())
     }
 }
