@@ -26,26 +26,26 @@ use Rattle.cc_parse_laws.proofs.CompleteStatements.{IsStmt, empty_again, break_a
 
 -- ---- With which tokens statements and items begin
 
-is_label : StmtStart → Bool
+unfoldable pub is_label : StmtStart → Bool
 is_label begins_case = true
 is_label begins_default = true
 is_label _ = false
 
 -- neither a declaration nor a label begins here, nor does a block end, nor an `else` come
-record OpensStmt (names : Names) (ts : List Token) : Type 0 where
-  no_spec : starts_spec names ts ≡ false
-  no_brace : next_is the_punct.RightBrace ts ≡ false
-  no_else : next_is_keyword the_keyword.Else ts ≡ false
-  no_label : is_label (stmt_start ts) ≡ false
+pub record OpensStmt (names : Names) (ts : List Token) : Type 0 where
+  pub no_spec : starts_spec names ts ≡ false
+  pub no_brace : next_is the_punct.RightBrace ts ≡ false
+  pub no_else : next_is_keyword the_keyword.Else ts ≡ false
+  pub no_label : is_label (stmt_start ts) ≡ false
 
-key_opens : (names : Names) (w : Keyword) (n : Spot) (i : Outline) (d : ℕ) (ts r : List Token) → is_spec (spec_keyword w) ≡ false → same_keyword the_keyword.Else w ≡ false → is_label (stmt_keyword w) ≡ false
+pub key_opens : (names : Names) (w : Keyword) (n : Spot) (i : Outline) (d : ℕ) (ts r : List Token) → is_spec (spec_keyword w) ≡ false → same_keyword the_keyword.Else w ≡ false → is_label (stmt_keyword w) ≡ false
     → Reads (part true (Unit {0}) (outlines.keyword_of n w i) end) d ts r → OpensStmt names ts
 key_opens names w n i d ts r a b c x =
     let y = only_counted (Unit {0}) (outlines.keyword_of n w i) d ts r x in
     let word = comes_keyword w (Some n) (Unit {0}) i d ts r (inside_sinks true (outlines.keyword_of n w i) d ts r y.1) in
     record { no_spec = key_spec names w ts a word.is; no_brace = keyword_punct the_punct.RightBrace w ts word.is; no_else = key_other the_keyword.Else w ts b word.is; no_label = ap is_label (key_stmt w ts word.is) ∙ c }
 
-sign_opens : (names : Names) (s : Punct) (n : Spot) (i : Outline) (d : ℕ) (ts r : List Token) → same_punct the_punct.RightBrace s ≡ false → is_label (stmt_punct s) ≡ false
+pub sign_opens : (names : Names) (s : Punct) (n : Spot) (i : Outline) (d : ℕ) (ts r : List Token) → same_punct the_punct.RightBrace s ≡ false → is_label (stmt_punct s) ≡ false
     → Reads (part true (Unit {0}) (outlines.punct_of n s i) end) d ts r → OpensStmt names ts
 sign_opens names s n i d ts r a b x =
     let y = only_counted (Unit {0}) (outlines.punct_of n s i) d ts r x in
@@ -64,7 +64,7 @@ block_opens : (names : Names) (b : BlockTree Spot) (d : ℕ) (ts r : List Token)
 unfolding is_label
 block_opens names (block n is) d ts r x = sign_opens names the_punct.LeftBrace n (after (inside (outlines.block_of names (block n is)))) d ts r refl refl x
 
-stmt_opens : (names : Names) (s : StmtTree Spot) (d : ℕ) (ts r : List Token) → Reads (outlines.stmt names s) d ts r → OpensStmt names ts
+pub stmt_opens : (names : Names) (s : StmtTree Spot) (d : ℕ) (ts r : List Token) → Reads (outlines.stmt names s) d ts r → OpensStmt names ts
 unfolding is_label
 stmt_opens names (compound b) d ts r x = block_opens names b d ts r x
 stmt_opens names (plain n e) d ts r x = plain_opens names n e d ts r x
@@ -80,9 +80,9 @@ stmt_opens names (continue n) d ts r x = key_opens names the_keyword.Continue n 
 stmt_opens names (return n e) d ts r x = key_opens names the_keyword.Return n (after (inside (outlines.stmt names (return n e)))) d ts r refl refl refl x
 
 -- an item comes next: the block doesn't end, and no `else` comes
-record OpensItem (ts : List Token) : Type 0 where
-  no_brace : next_is the_punct.RightBrace ts ≡ false
-  no_else : next_is_keyword the_keyword.Else ts ≡ false
+pub record OpensItem (ts : List Token) : Type 0 where
+  pub no_brace : next_is the_punct.RightBrace ts ≡ false
+  pub no_else : next_is_keyword the_keyword.Else ts ≡ false
 
 key_item : (w : Keyword) (n : Spot) (i : Outline) (d : ℕ) (ts r : List Token) → same_keyword the_keyword.Else w ≡ false → Reads (part true (Unit {0}) (outlines.keyword_of n w i) end) d ts r → OpensItem ts
 key_item w n i d ts r b x =
@@ -98,7 +98,7 @@ declares_item names (declaration n ss is) d ts r x =
     let starts = (first_specs names ss n d ts z.0 y.0 z.2).0 in
     record { no_brace = spec_not names the_punct.RightBrace ts starts; no_else = spec_no_else names ts starts }
 
-item_opens : (names : Names) (i : ItemTree Spot) (d : ℕ) (ts r : List Token) → Reads (outlines.item names i) d ts r → OpensItem ts
+pub item_opens : (names : Names) (i : ItemTree Spot) (d : ℕ) (ts r : List Token) → Reads (outlines.item names i) d ts r → OpensItem ts
 item_opens names (declares a) d ts r x = declares_item names a d ts r x
 item_opens names (case_label n e) d ts r x = key_item the_keyword.Case n (after (inside (outlines.item names (case_label n e)))) d ts r refl x
 item_opens names (default_label n) d ts r x = key_item the_keyword.Default n (after (inside (outlines.item names (default_label n)))) d ts r refl x
@@ -130,7 +130,7 @@ stmt_size names (return n e) = omega arith
 declaration_size : (names : Names) (a : DeclarationTree Spot) → 1 ≤ size (outlines.declaration_of names a)
 declaration_size names (declaration n ss is) = omega arith
 
-item_size : (names : Names) (i : ItemTree Spot) → 1 ≤ size (outlines.item names i)
+pub item_size : (names : Names) (i : ItemTree Spot) → 1 ≤ size (outlines.item names i)
 item_size names (declares a) = omega (arith, declaration_size names a)
 item_size names (case_label n e) = omega arith
 item_size names (default_label n) = omega arith
@@ -138,7 +138,7 @@ item_size names (does s) = stmt_size names s
 
 -- ---- Items
 
-abbrev IsItem : ItemTree Spot → Type 0
+abbrev pub IsItem : ItemTree Spot → Type 0
 IsItem i = (names : Names) (d : ℕ) (ts r : List Token) → Reads (outlines.item names i) d ts r → next_is_keyword the_keyword.Else r ≡ false → item (stmt d) d names ts ≡ Ok (i, r)
 
 abbrev AllItems : ItemTrees Spot → Type 0
@@ -146,7 +146,7 @@ AllItems no_items = Unit {0}
 AllItems (more_items i is) = IsItem i × AllItems is
 
 -- what begins no label is a statement
-no_label_by : (inner : Names → Parser (StmtTree Spot)) (d : ℕ) (s : StmtStart) (names : Names) (n : Spot) (ts : List Token) → is_label s ≡ false → label_by inner d s names n ts ≡ (does <$> inner names) ts
+pub no_label_by : (inner : Names → Parser (StmtTree Spot)) (d : ℕ) (s : StmtStart) (names : Names) (n : Spot) (ts : List Token) → is_label s ≡ false → label_by inner d s names n ts ≡ (does <$> inner names) ts
 unfolding is_label
 no_label_by inner d begins_case names n ts e = absurd cc
 no_label_by inner d begins_default names n ts e = absurd cc
@@ -176,7 +176,7 @@ default_inside n names d ts r x =
 default_again : (n : Spot) → IsItem (default_label n)
 default_again n names d ts r x e = item_at names (default_label n) (Unit {0}) d ts r x (λ f _ y. default_inside n names f ts r y)
 
-listed : ItemTrees Spot → List (ItemTree Spot)
+pub listed : ItemTrees Spot → List (ItemTree Spot)
 listed no_items = []
 listed (more_items i is) = i ∷ listed is
 
@@ -185,7 +185,7 @@ unfolding listed
 gathered_listed no_items = refl
 gathered_listed (more_items i is) = ap (more_items i) (gathered_listed is)
 
-items_again : (is : ItemTrees Spot) → AllItems is → (names : Names) (d turns : ℕ) (ts r : List Token) → Reads (outlines.items names is) d ts r → next_is the_punct.RightBrace r ≡ true → length ts < turns
+pub items_again : (is : ItemTrees Spot) → AllItems is → (names : Names) (d turns : ℕ) (ts r : List Token) → Reads (outlines.items names is) d ts r → next_is the_punct.RightBrace r ≡ true → length ts < turns
     → items_by (stmt d) d turns names ts ≡ Ok (listed is, skip r)
 unfolding listed
 items_again is all names d zero ts r x e h = absurd (omega (arith, h))
@@ -245,13 +245,13 @@ module _ (readers_complete : (names : Names) (d : ℕ) → CompleteInner names (
     is_block : (b : BlockTree Spot) → IsStmt (compound b)
     is_block (block n is) = block_again n is (are_items is)
 
-    is_item : (i : ItemTree Spot) → IsItem i
+    pub is_item : (i : ItemTree Spot) → IsItem i
     is_item (declares a) = declares_again a
     is_item (case_label n e) = case_again n e
     is_item (default_label n) = default_again n
     is_item (does s) = does_again s (is_stmt s)
 
-    are_items : (is : ItemTrees Spot) → AllItems is
+    pub are_items : (is : ItemTrees Spot) → AllItems is
     are_items no_items = tt
     are_items (more_items i is) = (is_item i, are_items is)
 

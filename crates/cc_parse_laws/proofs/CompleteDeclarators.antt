@@ -78,7 +78,7 @@ module _ (names : Names) (inner : Inner) (d : ℕ) where
       ∙ mapped (λ x. x + 1) (count turns (skip ts)) c r rest
       ∙ ap (λ x. done x r) (one_more c)
 
-  consts_again : (c : ℕ) (ts r : List Token) → Reads (outlines.consts c) d ts r → next_is_keyword the_keyword.Const r ≡ false → consts names inner (suc d) ts ≡ Ok (c, r)
+  pub consts_again : (c : ℕ) (ts r : List Token) → Reads (outlines.consts c) d ts r → next_is_keyword the_keyword.Const r ≡ false → consts names inner (suc d) ts ≡ Ok (c, r)
   consts_again c ts r y e = consts_by_again c (length ts) ts r y e (omega (arith, reads_length (outlines.consts c) d ts r y, consts_size c))
 
 -- ---- The forms
@@ -106,25 +106,25 @@ module _ (names : Names) (inner : Inner) (d : ℕ) where
   parameters_begin with_or_without ts h e = e
 
   -- and one before a declarator doesn't
-  group_begins : (mode : Mode) (ts : List Token) → next_is the_punct.RightParen (skip ts) ≡ false → starts_spec names (skip ts) ≡ false → begins_parameters names inner (suc d) mode ts ≡ false
+  pub group_begins : (mode : Mode) (ts : List Token) → next_is the_punct.RightParen (skip ts) ≡ false → starts_spec names (skip ts) ≡ false → begins_parameters names inner (suc d) mode ts ≡ false
   group_begins with_name ts a b = refl
   group_begins without_name ts a b = neither (next_is the_punct.RightParen (skip ts)) (starts_spec names (skip ts)) a b
   group_begins with_or_without ts a b = neither (next_is the_punct.RightParen (skip ts)) (starts_spec names (skip ts)) a b
 
   -- a name comes
-  abbrev name_comes : Mode → List Token → Bool
+  abbrev pub name_comes : Mode → List Token → Bool
   name_comes mode ts = takes_name mode && is_id names inner (suc d) (next_ident ts)
 
-  abbrev group_comes : Mode → List Token → Bool
+  abbrev pub group_comes : Mode → List Token → Bool
   group_comes mode ts = next_is the_punct.LeftParen ts && opposite (begins_parameters names inner (suc d) mode ts)
 
-  abbrev by_name : Parser (DeclTree Spot)
+  abbrev pub by_name : Parser (DeclTree Spot)
   by_name = placed (λ n. declared n <$> id names)
 
-  abbrev group_or : Mode → Parser (DeclTree Spot)
+  abbrev pub group_or : Mode → Parser (DeclTree Spot)
   group_or mode = where_next (group_comes mode) (group names inner (suc d) mode) (nothing names inner (suc d) mode)
 
-  no_name_comes : (mode : Mode) (ts : List Token) → next_ident ts ≡ None → name_comes mode ts ≡ false
+  pub no_name_comes : (mode : Mode) (ts : List Token) → next_ident ts ≡ None → name_comes mode ts ≡ false
   no_name_comes mode ts e = and_right (takes_name mode) (is_id names inner (suc d) (next_ident ts)) (ap (is_id names inner (suc d)) e)
 
   grown_declared : (n : Spot) (x : Name) → IsGrown names inner d (declared n x)
@@ -144,7 +144,7 @@ module _ (names : Names) (inner : Inner) (d : ℕ) where
 
   grown_nameless : IsGrown names inner d nameless
   grown_nameless mode ts r suits y follows =
-      let here : Suffixed names ts = subst (Suffixed names) (sym y) follows in
+      let here : Suffixed names ts = subst (Suffixed names) (sym y) (follows refl) in
       rooted names inner d mode ts nameless r
       (branch_false (name_comes mode ts) by_name (group_or mode) ts (no_name_comes mode ts here.no_name)
       ∙ branch_false (group_comes mode ts) (group names inner (suc d) mode) (nothing names inner (suc d) mode) ts (no_group mode ts suits (next_is the_punct.LeftParen ts) refl here.paren)
@@ -176,7 +176,7 @@ module _ (names : Names) (inner : Inner) (d : ℕ) (good : CompleteInner names i
       ∙ ap (λ m. done (grouped m f) last) (opening_stands f n (spot ts) y.1 t.at)
       ∙ rest_is (grouped n f) last r y.3)
 
-  length_again : (e : ExprOption Spot) (ts q : List Token) → Reads (outlines.length_of names e) d ts q → next_is the_punct.RightBracket q ≡ true → take the_punct.RightBracket q ≡ Ok (tt, skip q) → array_length names inner (suc d) ts ≡ Ok (e, skip q)
+  pub length_again : (e : ExprOption Spot) (ts q : List Token) → Reads (outlines.length_of names e) d ts q → next_is the_punct.RightBracket q ≡ true → take the_punct.RightBracket q ≡ Ok (tt, skip q) → array_length names inner (suc d) ts ≡ Ok (e, skip q)
   length_again no_expr ts q y c took =
       branch_true (next_is the_punct.RightBracket ts) (skipping (pure no_expr)) (inner.expr 3 >>= (λ e. take the_punct.RightBracket >> pure (an_expr e))) ts (ap (next_is the_punct.RightBracket) y ∙ c)
       ∙ ap (λ us. done no_expr (skip us)) y
@@ -206,7 +206,7 @@ module _ (names : Names) (inner : Inner) (d : ℕ) (good : CompleteInner names i
       let close_next = reads_next (Unit {0}) the_punct.RightBracket None end d q last t.after.3 in
       let no_paren : next_is the_punct.LeftParen m ≡ false = sign_other the_punct.LeftParen the_punct.LeftBracket m refl open_next in
       let here : Suffixed names m = record { no_name = sign_ident the_punct.LeftBracket m open_next; paren = λ yes. absurd cc } in
-      let first : Grows names inner d mode ts a m = ga mode ts m (suits_as mode (array n a e) a refl suits) (inside_sinks (outlines.is_written a) (outlines.declarator names a) d ts m z.2) here in
+      let first : Grows names inner d mode ts a m = ga mode ts m (suits_as mode (array n a e) a refl suits) (inside_sinks (outlines.is_written a) (outlines.declarator names a) d ts m z.2) (λ e. here) in
       let read : array_length names inner (suc d) (skip m) ≡ Ok (e, skip q) = length_again e (skip m) q t.after.2 close_next (reads_take (Unit {0}) the_punct.RightBracket None end d q last t.after.3) in
       grown names inner d mode ts a (array n a e) m r first (or_left (next_is the_punct.LeftBracket m) (next_is the_punct.LeftParen m) open_next) (left_depth names a d ts m z.2) (omega arith)
       (branch_true (next_is the_punct.LeftBracket m) (array_behind a (spot m)) (function_behind a (spot m)) m open_next
@@ -231,7 +231,7 @@ module _ (names : Names) (inner : Inner) (d : ℕ) (good : CompleteInner names i
       let t2 = next_token (Unit {0}) (kind.Punct the_punct.RightParen) None end d q last t.after.3 in
       let close_next = reads_next (Unit {0}) the_punct.RightParen None end d q last t.after.3 in
       let here : Suffixed names m = record { no_name = sign_ident the_punct.LeftParen m open_next; paren = λ yes. parameters_ahead us (skip m) q t.after.2 close_next } in
-      let first : Grows names inner d mode ts a m = ga mode ts m (suits_as mode (function n a us) a refl suits) (inside_sinks (outlines.is_written a) (outlines.declarator names a) d ts m z.2) here in
+      let first : Grows names inner d mode ts a m = ga mode ts m (suits_as mode (function n a us) a refl suits) (inside_sinks (outlines.is_written a) (outlines.declarator names a) d ts m z.2) (λ e. here) in
       let read : parameters names inner (suc d) (skip m) ≡ Ok (listed.types us, skip q) = parameters_again names inner d good us (skip m) q t.after.2 close_next in
       grown names inner d mode ts a (function n a us) m r first (or_right (next_is the_punct.LeftBracket m) (next_is the_punct.LeftParen m) open_next) (left_depth names a d ts m z.2) (omega arith)
       (branch_false (next_is the_punct.LeftBracket m) (array_behind a (spot m)) (function_behind a (spot m)) m (sign_other the_punct.LeftBracket the_punct.LeftParen m refl open_next)
@@ -240,7 +240,7 @@ module _ (names : Names) (inner : Inner) (d : ℕ) (good : CompleteInner names i
       ∙ ap (λ c. done (function c a us) (skip q)) (suffix_stands a n (spot m) y.1 t.at)
       ∙ rest_is (function n a us) (skip q) r (t2.after ∙ y.3))
 
-  is_grown : (f : DeclTree Spot) → outlines.is_direct f ≡ true → IsGrown names inner d f
+  pub is_grown : (f : DeclTree Spot) → outlines.is_direct f ≡ true → IsGrown names inner d f
   is_grown (declared n x) e mode ts r suits y follows = grown_declared names inner d n x mode ts r suits y follows
   is_grown nameless e mode ts r suits y follows = grown_nameless names inner d mode ts r suits y follows
   is_grown (pointer n c f) e mode ts r suits y follows = absurd cc
@@ -259,7 +259,7 @@ module _ (names : Names) (inner : Inner) (d : ℕ) (good : CompleteInner names i
   direct_again : (mode : Mode) (f : DeclTree Spot) (ts r : List Token) → outlines.is_direct f ≡ true → Suits mode f → Reads (outlines.declarator names f) d ts r → EndsDeclarator r → declarator names inner (suc d) mode ts ≡ Ok (f, r)
   direct_again mode f ts r e suits y ends =
       let follows : Suffixed names r = record { no_name = ends.no_name; paren = λ yes. let no : next_is the_punct.LeftParen r ≡ false = ends.no_paren in absurd cc } in
-      let g = is_grown f e mode ts r suits y follows in
+      let g = is_grown f e mode ts r suits y (λ w. follows) in
       branch_false (suc d == 0) (nothing names inner (suc d) mode) (where_next (next_is the_punct.Star) (pointer_behind mode) (direct_behind mode)) ts (not_zero d)
       ∙ branch_false (next_is the_punct.Star ts) (pointer_behind mode) (direct_behind mode) ts (no_star names f d ts r e y ends.no_star)
       ∙ g.same

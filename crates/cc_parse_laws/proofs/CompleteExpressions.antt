@@ -37,7 +37,7 @@ use Rattle.cc_parse_laws.proofs.Inner.{ReadsExpr, Ends, CompleteInner}
 
 -- ---- Tokens of operators
 
-tail_step : (op : StepOp) → tail_punct (step_punct op) ≡ goes_step op
+pub tail_step : (op : StepOp) → tail_punct (step_punct op) ≡ goes_step op
 tail_step the_step.Increment = refl
 tail_step the_step.Decrement = refl
 
@@ -59,12 +59,12 @@ tail_int int.Mul = refl
 tail_int int.Div = refl
 tail_int int.Rem = refl
 
-tail_binary : (op : BinaryOp) → tail_punct (binary_punct op) ≡ goes_binary op
+pub tail_binary : (op : BinaryOp) → tail_punct (binary_punct op) ≡ goes_binary op
 tail_binary the_binary.OrOr = refl
 tail_binary the_binary.AndAnd = refl
 tail_binary (the_binary.Int op) = tail_int op
 
-tail_assign : (op : AssignOp) → tail_punct (assign_punct op) ≡ goes_assign op
+pub tail_assign : (op : AssignOp) → tail_punct (assign_punct op) ≡ goes_assign op
 tail_assign the_assign.Plain = refl
 tail_assign the_assign.Mul = refl
 tail_assign the_assign.Div = refl
@@ -197,7 +197,7 @@ module _ (names : Names) (inner : Inner) (d : ℕ) (good : CompleteInner names i
 
   -- ---- All expressions
 
-  is_read : (e : ExprTree Spot) → IsRead names inner d e
+  pub is_read : (e : ExprTree Spot) → IsRead names inner d e
   is_read (name n x) = read_name names inner d good n x
   is_read (integer n v c) = read_integer names inner d good n v c
   is_read (character n v) = read_character names inner d good n v

@@ -29,16 +29,16 @@ spot_of_named (array a f e) n m h at = sym at
 spot_of_named (function a f ps) n m h at = sym at
 spot_of_named (grouped a f) n m h at = sym at
 
-specs_begin : (ss : SpecTrees Spot) → outlines.HasSpecs ss → (n : Spot) × outlines.BeginAt ss n
+pub specs_begin : (ss : SpecTrees Spot) → outlines.HasSpecs ss → (n : Spot) × outlines.BeginAt ss n
 specs_begin no_specs h = absurd h
 specs_begin (more_specs s ss) h = (outlines.spec_spot s, refl)
 
 -- each has tokens
-external_size : (names : Names) (x : ExternalTree Spot) → 1 ≤ size (outlines.external names x)
+pub external_size : (names : Names) (x : ExternalTree Spot) → 1 ≤ size (outlines.external names x)
 external_size names (outer_declaration (declaration n ss is)) = omega arith
 external_size names (definition n ss f b) = omega (arith, block_size names b)
 
-not_ended : (ts r : List Token) → length r < length ts → ended ts ≡ false
+pub not_ended : (ts r : List Token) → length r < length ts → ended ts ≡ false
 not_ended [] r h = absurd (omega (arith, h))
 not_ended (t ∷ ts) r h = refl
 

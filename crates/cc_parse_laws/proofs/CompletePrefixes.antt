@@ -36,7 +36,7 @@ use Rattle.cc_parse_laws.proofs.Inner.{ReadsExpr, CompleteInner}
 
 -- ---- Tokens of operators
 
-start_unary : (op : UnaryOp) → start_punct (unary_punct op) ≡ begins_unary op
+pub start_unary : (op : UnaryOp) → start_punct (unary_punct op) ≡ begins_unary op
 start_unary the_unary.Address = refl
 start_unary the_unary.Deref = refl
 start_unary (the_unary.Int int_unary.Plus) = refl
@@ -44,7 +44,7 @@ start_unary (the_unary.Int int_unary.Minus) = refl
 start_unary (the_unary.Int int_unary.Invert) = refl
 start_unary (the_unary.Int int_unary.Not) = refl
 
-start_step : (op : StepOp) → start_punct (step_punct op) ≡ begins_step op
+pub start_step : (op : StepOp) → start_punct (step_punct op) ≡ begins_step op
 start_step the_step.Increment = refl
 start_step the_step.Decrement = refl
 
@@ -56,7 +56,7 @@ close q x d m r y =
     let t = next_token (Unit {0}) (kind.Punct q) None end d m r y in
     ap (λ z. and_then z (λ w vs. done x vs)) (reads_take (Unit {0}) q None end d m r y) ∙ rest_is x (skip m) r t.after
 
-not_one : (names : Names) (e : ExprTree Spot) (d : ℕ) (ts r : List Token) → ReadsExpr names d e ts r → (suc d == 1) ≡ false
+pub not_one : (names : Names) (e : ExprTree Spot) (d : ℕ) (ts r : List Token) → ReadsExpr names d e ts r → (suc d == 1) ≡ false
 not_one names e zero ts r y = absurd y
 not_one names e (suc d) ts r y = ne_eqb (suc (suc d)) 1 (λ z. omega (arith, z))
 

@@ -27,7 +27,7 @@ use Rattle.cc_parse_laws.proofs.Climbs.{bound, mapped, done, rest_is}
 use Rattle.cc_parse_laws.proofs.Listed as listed
 use Rattle.cc_parse_laws.proofs.Inner.{EndsSpecs}
 
-word_begins : (v : SpecWord) → spec_keyword (spec_keyword v) ≡ spec_word v
+pub word_begins : (v : SpecWord) → spec_keyword (spec_keyword v) ≡ spec_word v
 word_begins the_spec_word.Typedef = refl
 word_begins the_spec_word.Extern = refl
 word_begins the_spec_word.Static = refl
@@ -42,7 +42,7 @@ word_begins the_spec_word.Signed = refl
 word_begins the_spec_word.Unsigned = refl
 word_begins the_spec_word.Bool = refl
 
-name_begins : (names : Names) (x : Name) → is_type names x ≡ true → spec_kind names (kind.Identifier x) ≡ spec_named x
+pub name_begins : (names : Names) (x : Name) → is_type names x ≡ true → spec_kind names (kind.Identifier x) ≡ spec_named x
 name_begins names x e = rw e refl
 
 module _ (names : Names) (inner : Inner) (d : ℕ) where
@@ -66,10 +66,10 @@ module _ (names : Names) (inner : Inner) (d : ℕ) where
 
   -- ---- One specifier
 
-  abbrev one_spec : Parser (SpecTree Spot)
+  abbrev pub one_spec : Parser (SpecTree Spot)
   one_spec ts = spec_by names inner d (spec_start names ts) (spot ts) ts
 
-  abbrev NoBrace : List Token → Type 0
+  abbrev pub NoBrace : List Token → Type 0
   NoBrace us = next_is the_punct.LeftBrace us ≡ false
 
   begins : (k : TokenKind) (n : Spot) (h : Type 0) (i : Outline) (ts m r : List Token) (st : SpecStart) (q : SpecTree Spot) → Reads (token h k (Some n) i) d ts m → spec_kind names k ≡ st → spec_by names inner d st n ts ≡ Ok (q, r) → one_spec ts ≡ Ok (q, r)
@@ -78,18 +78,18 @@ module _ (names : Names) (inner : Inner) (d : ℕ) where
       let starts : spec_start names ts ≡ st = at_token (spec_start names) (spec_kind names) (λ c us. refl) h k (Some n) i d ts m y ∙ is in
       ap (λ c. spec_by names inner d c (spot ts) ts) starts ∙ ap (λ c. spec_by names inner d st c ts) t.at ∙ read
 
-  tag_none : (ts : List Token) → next_ident ts ≡ None → tag names inner d ts ≡ Ok (None, ts)
+  pub tag_none : (ts : List Token) → next_ident ts ≡ None → tag names inner d ts ≡ Ok (None, ts)
   tag_none ts e = ap (λ (z : Option Name). tag_by names inner d z ts) e
 
-  tag_some : (x : Name) (ts q : List Token) → Reads (outlines.tag_of (Some x)) d ts q → tag names inner d ts ≡ Ok (Some x, q)
+  pub tag_some : (x : Name) (ts q : List Token) → Reads (outlines.tag_of (Some x)) d ts q → tag names inner d ts ≡ Ok (Some x, q)
   tag_some x ts q y =
       let t = next_token (Unit {0}) (kind.Identifier x) None end d ts q y in
       ap (λ (z : Option Name). tag_by names inner d z ts) (at_token next_ident ident (λ c us. refl) (Unit {0}) (kind.Identifier x) None end d ts q y) ∙ rest_is (Some x) (skip ts) q t.after
 
-  abbrev struct_behind : Spot → Option Name → Parser (SpecTree Spot)
+  abbrev pub struct_behind : Spot → Option Name → Parser (SpecTree Spot)
   struct_behind n t = where_next (λ ts. next_is the_punct.LeftBrace ts || untagged names inner d t) ((λ ms. struct n t (gathered_members ms)) <$> member_list names inner d) (pure (struct n t no_members))
 
-  abbrev enum_behind : Spot → Option Name → Parser (SpecTree Spot)
+  abbrev pub enum_behind : Spot → Option Name → Parser (SpecTree Spot)
   enum_behind n t = where_next (λ ts. next_is the_punct.LeftBrace ts || untagged names inner d t) ((λ cs. enum n t (gathered_constants cs.0) cs.1) <$> constant_list names inner d) (pure (enum n t no_constants false))
 
   bare_struct : (n : Spot) (x : Name) (ts : List Token) → next_is the_punct.LeftBrace ts ≡ false → struct_behind n (Some x) ts ≡ Ok (struct n (Some x) no_members, ts)
@@ -138,7 +138,7 @@ module _ (names : Names) (inner : Inner) (d : ℕ) where
   enum_again again n (Some x) (more_constants c cs) trailing ts q m shaped y z e =
       bound (enum_behind n) (tag names inner d ts) (Some x) q (tag_some x ts q y) ∙ full_enum again n (Some x) c cs trailing q m z
 
-  spec_again : MembersAgain → ConstantsAgain → (q : SpecTree Spot) → Again one_spec (listed.SpecSpan names d) NoBrace q
+  pub spec_again : MembersAgain → ConstantsAgain → (q : SpecTree Spot) → Again one_spec (listed.SpecSpan names d) NoBrace q
   spec_again ma ca (word n v) ts r y e =
       let t = next_token (Unit {0}) (kind.Keyword (spec_keyword v)) (Some n) end d ts r y in
       begins (kind.Keyword (spec_keyword v)) n (Unit {0}) end ts r r (spec_word v) (word n v) y (word_begins v) (rest_is (word n v) (skip ts) r t.after)

@@ -50,13 +50,13 @@ module _ (names : Names) (inner : Inner) (d : ℕ) (good : CompleteInner names i
   abbrev pub Parted : List Token → Type 0
   Parted r = EndsSpecs names r × EndsDeclarator r
 
-  parted_comma : (ts : List Token) → next_is the_punct.Comma ts ≡ true → Parted ts
+  pub parted_comma : (ts : List Token) → next_is the_punct.Comma ts ≡ true → Parted ts
   parted_comma ts e = (sign_ends_specs names the_punct.Comma ts refl e, sign_ends_declarator the_punct.Comma ts refl refl refl e)
 
   parted_close : (ts : List Token) → next_is the_punct.RightParen ts ≡ true → Parted ts
   parted_close ts e = (sign_ends_specs names the_punct.RightParen ts refl e, sign_ends_declarator the_punct.RightParen ts refl refl refl e)
 
-  parameter_again : (t : TypeTree Spot) → Again (typed names inner (suc d) with_or_without) (listed.ParameterSpan names d) Parted t
+  pub parameter_again : (t : TypeTree Spot) → Again (typed names inner (suc d) with_or_without) (listed.ParameterSpan names d) Parted t
   parameter_again (type_name n ss f) ts r y ends =
       typed_again with_or_without n ss f ts y.2.0 r y.1 y.2.2 tt (subst (ReadsDeclarator names d f y.2.0) (y.2.3.3 ∙ y.3) y.2.3.2) ends.0 ends.1
 
@@ -83,7 +83,7 @@ module _ (names : Names) (inner : Inner) (d : ℕ) (good : CompleteInner names i
   pub first_type : (t : TypeTree Spot) (ts r : List Token) → Reads (outlines.type_of names t) d ts r → starts_spec names ts ≡ true
   first_type (type_name n ss f) ts r y = let x = first_specs names ss n d ts y.2.0 y.1 y.2.2 in x.0
 
-  argument_again : (e : ExprTree Spot) → Again (inner.expr 2) (listed.ArgumentSpan names d) (Ends 2) e
+  pub argument_again : (e : ExprTree Spot) → Again (inner.expr 2) (listed.ArgumentSpan names d) (Ends 2) e
   argument_again e ts r y ends = good.expr 2 e ts r y.0 y.1 ends
 
   pub arguments_again : (es : ExprTrees Spot) (ts m : List Token) → Reads (outlines.arguments names es) d ts m → next_is the_punct.RightParen m ≡ true → arguments names inner (suc d) ts ≡ Ok (listed.exprs es, skip m)

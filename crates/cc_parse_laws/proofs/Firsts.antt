@@ -81,7 +81,7 @@ opens_at names h k n i d ts r a b x = record {
   no_spec = at_token (starts_spec names) (λ c. is_spec (spec_kind names c)) (λ t us. refl) h k n i d ts r x ∙ b;
 }
 
-unary_opens : (op : UnaryOp) → opens (start_punct (unary_punct op)) ≡ true
+pub unary_opens : (op : UnaryOp) → opens (start_punct (unary_punct op)) ≡ true
 unary_opens the_unary.Address = refl
 unary_opens the_unary.Deref = refl
 unary_opens (the_unary.Int int_unary.Plus) = refl
@@ -89,7 +89,7 @@ unary_opens (the_unary.Int int_unary.Minus) = refl
 unary_opens (the_unary.Int int_unary.Invert) = refl
 unary_opens (the_unary.Int int_unary.Not) = refl
 
-step_opens : (op : StepOp) → opens (start_punct (step_punct op)) ≡ true
+pub step_opens : (op : StepOp) → opens (start_punct (step_punct op)) ≡ true
 step_opens the_step.Increment = refl
 step_opens the_step.Decrement = refl
 
@@ -165,7 +165,7 @@ type_ahead names ts = next_is the_punct.LeftParen ts && starts_spec names (skip 
 other_ahead : (names : Names) (h : Type 0) (k : TokenKind) (n : Option Spot) (i : Outline) (d : ℕ) (ts r : List Token) → is_punct the_punct.LeftParen k ≡ false → Reads (token h k n i) d ts r → type_ahead names ts ≡ false
 other_ahead names h k n i d ts r a x = and_left (next_is the_punct.LeftParen ts) (starts_spec names (skip ts)) (at_token (next_is the_punct.LeftParen) (is_punct the_punct.LeftParen) (λ t us. refl) h k n i d ts r x ∙ a)
 
-unary_no_paren : (op : UnaryOp) → is_punct the_punct.LeftParen (kind.Punct (unary_punct op)) ≡ false
+pub unary_no_paren : (op : UnaryOp) → is_punct the_punct.LeftParen (kind.Punct (unary_punct op)) ≡ false
 unary_no_paren the_unary.Address = refl
 unary_no_paren the_unary.Deref = refl
 unary_no_paren (the_unary.Int int_unary.Plus) = refl
@@ -173,7 +173,7 @@ unary_no_paren (the_unary.Int int_unary.Minus) = refl
 unary_no_paren (the_unary.Int int_unary.Invert) = refl
 unary_no_paren (the_unary.Int int_unary.Not) = refl
 
-step_no_paren : (op : StepOp) → is_punct the_punct.LeftParen (kind.Punct (step_punct op)) ≡ false
+pub step_no_paren : (op : StepOp) → is_punct the_punct.LeftParen (kind.Punct (step_punct op)) ≡ false
 step_no_paren the_step.Increment = refl
 step_no_paren the_step.Decrement = refl
 
@@ -205,7 +205,7 @@ no_type_ahead names (size_type n t) d ts r h y = other_ahead names (Unit {0}) (k
 
 -- ---- Specifiers
 
-word_starts : (v : SpecWord) → is_spec (spec_keyword (spec_keyword v)) ≡ true
+pub word_starts : (v : SpecWord) → is_spec (spec_keyword (spec_keyword v)) ≡ true
 word_starts the_spec_word.Typedef = refl
 word_starts the_spec_word.Extern = refl
 word_starts the_spec_word.Static = refl
@@ -220,7 +220,7 @@ word_starts the_spec_word.Signed = refl
 word_starts the_spec_word.Unsigned = refl
 word_starts the_spec_word.Bool = refl
 
-name_starts : (names : Names) (x : Name) → is_type names x ≡ true → is_spec (spec_kind names (kind.Identifier x)) ≡ true
+pub name_starts : (names : Names) (x : Name) → is_type names x ≡ true → is_spec (spec_kind names (kind.Identifier x)) ≡ true
 name_starts names x e = rw e refl
 
 spec_at : (names : Names) (h : Type 0) (k : TokenKind) (n : Option Spot) (i : Outline) (d : ℕ) (ts r : List Token) → is_spec (spec_kind names k) ≡ true → Reads (token h k n i) d ts r → starts_spec names ts ≡ true

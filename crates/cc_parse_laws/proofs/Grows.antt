@@ -89,6 +89,6 @@ module _ (names : Names) (inner : Inner) (d : ℕ) where
       branch_false (suffix_comes names inner (suc d) r && nat_lt (declarator_depth f) (suc d)) (suffix names inner (suc d) f >>= suffixes names inner (suc d) turns) (pure f) r
       (and_left (suffix_comes names inner (suc d) r) (nat_lt (declarator_depth f) (suc d)) (neither (next_is the_punct.LeftBracket r) (next_is the_punct.LeftParen r) e.no_bracket e.no_paren))
 
-  -- Reading what the declarator is read of comes to it, whatever follows that could follow a left declarator.
+  -- Reading what the declarator is read of comes to it, whatever follows; where none is written, what could follow a left declarator.
   abbrev pub IsGrown : DeclTree Spot → Type 0
-  IsGrown f = (mode : Mode) (ts r : List Token) → Suits mode f → Reads (outlines.declarator names f) d ts r → Suffixed names r → Grows mode ts f r
+  IsGrown f = (mode : Mode) (ts r : List Token) → Suits mode f → Reads (outlines.declarator names f) d ts r → (outlines.is_written f ≡ false → Suffixed names r) → Grows mode ts f r

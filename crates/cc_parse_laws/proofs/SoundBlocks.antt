@@ -88,7 +88,7 @@ module _ (readers_sound : (names : Names) (d : ℕ) → SoundInner names (reader
     label_sound begins_default names ts x opening e = default_sound d names ts x opening e
     label_sound _ names ts x opening e = does_sound names ts x e
 
-    item_sound : (names : Names) → IsSound (item inner d names) (ReadsItem names d)
+    pub item_sound : (names : Names) → IsSound (item inner d names) (ReadsItem names d)
     item_sound names ts x e =
         elim (branched (starts_spec names ts) (counted_by d (λ e. declares <$> declaration_at e names)) (λ us. label_by inner d (stmt_start us) names (spot us) us) ts (Ok x) e) [
           | inl c ↦ declares_sound d names ts x c.1

@@ -27,7 +27,7 @@ pub record Begun (o : Outline) (d : ℕ) (ts r : List Token) : Type 0 where
 
 -- ---- How it is begun
 
-cut_here : (o : Outline) (d : ℕ) (ts r : List Token) → ts ≡ r → Cut o d ts r
+pub cut_here : (o : Outline) (d : ℕ) (ts r : List Token) → ts ≡ r → Cut o d ts r
 cut_here end d ts r e = e
 cut_here (token h k s o) d [] r e = e
 cut_here (token h k s o) d (t ∷ ts) r e = inl e

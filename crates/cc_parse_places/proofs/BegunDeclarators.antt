@@ -19,7 +19,7 @@ use Rattle.cc_parse_laws.proofs.Depths.{declarator_depth}
 use Rattle.cc_parse_laws.proofs.Steps.{bind_ok, branched, ok_is}
 use Rattle.cc_parse_laws.proofs.Inner.{ReadsDeclarator, Suits, SoundInner}
 use Rattle.cc_parse_laws.proofs.SoundClimbing.{sinks}
-use Rattle.cc_parse_places.proofs.DeclaratorsSound.{has_spot, suffix_stands, closes_over, opening_stands, suits_too, suits_pointer, suits_grouped, other_of, consts_by_sound, Direct, suffix_sound, direct_sound}
+use Rattle.cc_parse_laws.proofs.SoundDeclarators.{has_spot, suffix_stands, closes_over, opening_stands, suits_too, suits_pointer, suits_grouped, other_of, consts_by_sound, Direct, suffix_sound, direct_sound}
 use Rattle.cc_parse_places.proofs.Begun.{Begun, Part, at, sign_then, part_in, part_past, part_of, within_in, within_past}
 use Rattle.cc_parse_places.proofs.Failures.{err_is, bind_err, map_err, branch_err, until_err, id_err}
 use Rattle.cc_parse_places.proofs.BegunTypes.{BegunInner, Fails, missing, missing_suits, parameters_fail}

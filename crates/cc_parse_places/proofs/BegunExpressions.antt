@@ -24,7 +24,7 @@ use Rattle.cc_parse_laws.proofs.NextTokens.{NextKind, start_token, start_next, t
 use Rattle.cc_parse_laws.proofs.Inner.{ReadsExpr, SoundInner}
 use Rattle.cc_parse_laws.proofs.SoundTypes.{typed_sound, typed_type}
 use Rattle.cc_parse_laws.proofs.SoundClimbing.{Made, climb_sound, sinks, binary_level_most, goes_on_true}
-use Rattle.cc_parse_places.proofs.PrefixesSound.{prefix_sound}
+use Rattle.cc_parse_laws.proofs.SoundExpressions.{prefix_sound}
 use Rattle.cc_parse_places.proofs.Begun.{Begun, at, token_then, sign_then, part_in, part_past, part_of, within_in, within_past}
 use Rattle.cc_parse_places.proofs.Failures.{err_is, bind_err, map_err, branch_err, take_bind, until_err, id_err}
 use Rattle.cc_parse_places.proofs.BegunTypes.{BegunInner, Fails, FollowingBegun, RepeatedBegun, repeated_by_fails, typed_fails, type_begun, arguments_fail, some_spec}

@@ -18,8 +18,8 @@ use Rattle.cc_parse_laws.proofs.Steps.{bind_ok, take_ok}
 use Rattle.cc_parse_laws.proofs.NextTokens.{spec_token, spec_next, id_reads}
 use Rattle.cc_parse_laws.proofs.Lists.{Repeated, separated_sound, repeated_sound}
 use Rattle.cc_parse_laws.proofs.Inner.{SoundInner}
-use Rattle.cc_parse_places.proofs.SpecifiersSound.{HasMembers, HasConstants, MembersSound, ConstantsSound, struct_with_members, enum_with_constants, tag_sound, spec_by_sound, SpecAt}
-use Rattle.cc_parse_places.proofs.ListsSound.{Named, some_declarators, Line, member_line_sound, other_lines, One, one_constant_sound}
+use Rattle.cc_parse_laws.proofs.SoundSpecifiers.{HasMembers, HasConstants, MembersSound, ConstantsSound, struct_with_members, enum_with_constants, tag_sound, spec_by_sound, SpecAt}
+use Rattle.cc_parse_laws.proofs.SoundLists.{Named, some_declarators, Line, member_line_sound, other_lines, One, one_constant_sound}
 use Rattle.cc_parse_places.proofs.Begun.{Begun, Part, at, token_then, token_read, sign_then, part_in, part_past, part_of, within_in, within_past}
 use Rattle.cc_parse_places.proofs.Failures.{err_is, bind_err, map_err, branch_err, take_bind, until_err, id_err}
 use Rattle.cc_parse_places.proofs.BegunTypes.{BegunInner, Fails, OthersBegun, SomeBegun, BracedBegun, FollowingBegun, RepeatedBegun, separated_fails, enclosed_fails, repeated_by_fails, some_spec}

@@ -23,7 +23,7 @@ use Rattle.cc_parse_laws.proofs.SoundReaders.{readers_sound}
 use Rattle.cc_parse_laws.proofs.SoundClauses.{condition_sound, clause_sound, start_sound}
 use Rattle.cc_parse_laws.proofs.SoundBlocks.{ReadsStmt}
 use Rattle.cc_parse_laws.proofs.SoundStatements.{stmt_sound}
-use Rattle.cc_parse_places.proofs.ItemsSound.{item_sound}
+use Rattle.cc_parse_laws.proofs.SoundBlocks.{item_sound}
 use Rattle.cc_parse_places.proofs.Begun.{Begun, at, token_then, next_keyword, sign_then, key_then, part_in, part_past, part_of, within_in, within_past, read_past}
 use Rattle.cc_parse_places.proofs.Failures.{err_is, bind_err, map_err, branch_err, take_bind, take_keyword_bind, until_err, take_bind_ok, take_keyword_bind_ok}
 use Rattle.cc_parse_places.proofs.BegunTypes.{Fails}
@@ -141,7 +141,7 @@ module _ (inner : Names → Parser (StmtTree Spot)) (d : ℕ) (inner_sound : (na
       (λ g. let q = item_fails names ts m g in (q.0 ∷ [], within_in q.1))
       (λ y ok g.
       let q = items_by_fail turns (after_item y.0 names) y.1 m (map_err _ _ g) in
-      (y.0 ∷ q.0, within_past y.1 (item_sound inner d inner_sound names ts y ok) (within_in q.1))))
+      (y.0 ∷ q.0, within_past y.1 (item_sound readers_sound inner d inner_sound names ts y ok) (within_in q.1))))
 
   -- ---- Statements
 

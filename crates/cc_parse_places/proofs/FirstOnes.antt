@@ -16,7 +16,7 @@ inside_holds false P Q give d x = give d x
 inside_holds true P Q give zero x = absurd x
 inside_holds true P Q give (suc d) x = give d x
 
-inside_maps : (c : Bool) (P Q : ℕ → Type 0) (d : ℕ) → ((e : ℕ) → P e → Q e) → Inside c P d → Inside c Q d
+pub inside_maps : (c : Bool) (P Q : ℕ → Type 0) (d : ℕ) → ((e : ℕ) → P e → Q e) → Inside c P d → Inside c Q d
 inside_maps false P Q d f x = f d x
 inside_maps true P Q zero f x = x
 inside_maps true P Q (suc d) f x = f d x

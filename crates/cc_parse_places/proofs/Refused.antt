@@ -31,14 +31,14 @@ refused_whatever_follows d before t rest more failed =
     at_token fork 0 before (reading d (before ++ t ∷ rest)) (reading d (before ++ t ∷ more)) (alike.near before (omega arith)) failed
 
 -- What is left is the end of the tokens.
-left_is_the_end : (d : ℕ) (tokens : List Token) (t : Token) (rest : List Token) → reading d tokens ≡ Err (t ∷ rest) → Ending tokens (t ∷ rest)
+pub left_is_the_end : (d : ℕ) (tokens : List Token) (t : Token) (rest : List Token) → reading d tokens ≡ Err (t ∷ rest) → Ending tokens (t ∷ rest)
 left_is_the_end d tokens t rest failed =
     let fork : Fork = record { token = t; after = rest; other = [] } in
     let alike = tame_reading {t = fork} {u = 0} d in
     subst (λ (o : Outcome (List (ExternalTree Spot))). Ending tokens (left o)) failed (alike.ends tokens)
 
 -- what stands before the rest
-before_rest : (before : List Token) (t : Token) (tokens rest more : List Token) → tokens ≡ before ++ t ∷ rest → take (length tokens - length rest) tokens ++ more ≡ before ++ t ∷ more
+pub before_rest : (before : List Token) (t : Token) (tokens rest more : List Token) → tokens ≡ before ++ t ∷ rest → take (length tokens - length rest) tokens ++ more ≡ before ++ t ∷ more
 before_rest before t tokens rest more is =
     let first = before ++ t ∷ [] in
     let parts : tokens ≡ first ++ rest = is ∙ sym (append_assoc before (t ∷ []) rest) in

@@ -24,6 +24,12 @@ pub fn the_tokens_before_are_a_cut_off_file()
     ensures { (deepest : ℕ) (tokens left : List TokenValue) → reading deepest tokens ≡ Err left → CutOff deepest (take (length tokens - length left) tokens) }
 {}
 
+/// No cut-off file is spelled by the tokens up to the one at which reading fails and that token.
+pub fn no_cut_off_file_begins_so()
+    ensures { (deepest : ℕ) (tokens : List TokenValue) (refused : TokenValue) (rest : List TokenValue) → reading deepest tokens ≡ Err (refused ∷ rest)
+        → CutOff deepest (take (length tokens - length rest) tokens) → ⊥ }
+{}
+
 #[cfg(test)]
 mod tests {
     use super::*;
@@ -34,5 +40,6 @@ mod tests {
         a_token_is_refused_whatever_follows();
         no_file_begins_so();
         the_tokens_before_are_a_cut_off_file();
+        no_cut_off_file_begins_so();
     }
 }
