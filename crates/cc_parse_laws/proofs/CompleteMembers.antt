@@ -17,7 +17,7 @@ use Rattle.cc_parse_laws.proofs.Spans.{Reads}
 use Rattle.cc_parse_laws.proofs.Steps.{next_token, reads_next, branch_true, branch_false}
 use Rattle.cc_parse_laws.proofs.Lists.{Again, takes, separated_again, repeated_again, enclosed_again}
 use Rattle.cc_parse_laws.proofs.Depths.{named_is_written}
-use Rattle.cc_parse_laws.proofs.Peeks.{after, inside, at_token, sign_other, sign_ends, sign_ends_declarator}
+use Rattle.cc_parse_laws.proofs.Peeks.{after, inside, at_token, punct_other, punct_ends, punct_ends_declarator}
 use Rattle.cc_parse_laws.proofs.Firsts.{inside_sinks, first_specs}
 use Rattle.cc_parse_laws.proofs.FirstDeclarators.{first_declarator}
 use Rattle.cc_parse_laws.proofs.Climbs.{bound, mapped, done, rest_is, not_zero}
@@ -52,8 +52,8 @@ module _ (names : Names) (inner : Inner) (d : ℕ) (good : CompleteInner names i
       let semicolon = reads_next (Unit {0}) the_punct.Semicolon None end d c last z.3 in
       let first : inner.specs ts ≡ Ok (ss, q) = good.specs ss n ts q y.1 y.2.2 (named_ends g q z.2.0 z.2.1 z.2.2) in
       let list : separated (inner.declarator with_name) q ≡ Ok (g ∷ listed.declarators gs, c) =
-      separated_again (inner.declarator with_name) (listed.NamedSpan names d) EndsDeclarator named_again (listed.named_shorter names d) (λ us. sign_ends_declarator the_punct.Comma us refl refl refl)
-      (g ∷ listed.declarators gs) q c (listed.named_list names d g gs q c z.2) (sign_other the_punct.Comma the_punct.Semicolon c refl semicolon) (sign_ends_declarator the_punct.Semicolon c refl refl refl semicolon) in
+      separated_again (inner.declarator with_name) (listed.NamedSpan names d) EndsDeclarator named_again (listed.named_shorter names d) (λ us. punct_ends_declarator the_punct.Comma us refl refl refl)
+      (g ∷ listed.declarators gs) q c (listed.named_list names d g gs q c z.2) (punct_other the_punct.Comma the_punct.Semicolon c refl semicolon) (punct_ends_declarator the_punct.Semicolon c refl refl refl semicolon) in
       let stands = first_specs names ss n d ts q y.1 y.2.2 in
       bound (λ us vs. and_then (separated (inner.declarator with_name) vs) (λ fs ws. and_then (take the_punct.Semicolon ws) (λ u xs. done (members (spot ts) us (gathered_declarators fs)) xs))) (inner.specs ts) ss q first
       ∙ bound (λ fs ws. and_then (take the_punct.Semicolon ws) (λ u xs. done (members (spot ts) ss (gathered_declarators fs)) xs)) (separated (inner.declarator with_name) q) (g ∷ listed.declarators gs) c list
@@ -116,5 +116,5 @@ module _ (names : Names) (inner : Inner) (d : ℕ) (good : CompleteInner names i
   constants_again c cs trailing ts r y =
       branch_false (suc d == 0) refuse (enclosed (one_constant names inner (suc d))) ts (not_zero d)
       ∙ enclosed_again (one_constant names inner (suc d)) (listed.ConstantSpan names d) Valued one_again (listed.constant_shorter names d)
-      (λ us e. (sign_ends 3 the_punct.Comma us (omega arith) e, sign_other the_punct.Equal the_punct.Comma us refl e)) (λ us e. (sign_ends 3 the_punct.RightBrace us (omega arith) e, sign_other the_punct.Equal the_punct.RightBrace us refl e)) one_opens
+      (λ us e. (punct_ends 3 the_punct.Comma us (omega arith) e, punct_other the_punct.Equal the_punct.Comma us refl e)) (λ us e. (punct_ends 3 the_punct.RightBrace us (omega arith) e, punct_other the_punct.Equal the_punct.RightBrace us refl e)) one_opens
       (c ∷ listed.constants cs) trailing ts r (listed.constant_list names d c cs trailing ts r y)

@@ -18,11 +18,12 @@ use Rattle.cc_grammar.specs.Outlines as outlines
 use Rattle.cc_grammar.specs.Classes.{next_is, skip, spot, next_ident, ident, spec_start, spec_kind, spec_keyword, SpecStart, spec_word, spec_struct, spec_enum, spec_named, starts_spec}
 use Rattle.cc_grammar.specs.Outcomes.{Parser, and_then, pure, ◌<$>◌}
 use Rattle.cc_grammar.specs.Reading.{Inner, specs, spec_by, tag, tag_by, untagged, member_list, constant_list, where_next, repeated}
+use Rattle.std.proofs.lemmas.Bool.{or_left, or_from}
 use Rattle.cc_parse_laws.proofs.Spans.{Reads}
 use Rattle.cc_parse_laws.proofs.Steps.{next_token, reads_next, branch_true, branch_false}
 use Rattle.cc_parse_laws.proofs.Lists.{Again, repeated_again}
-use Rattle.cc_parse_laws.proofs.Peeks.{after, inside, at_token, sign_ident}
-use Rattle.cc_parse_laws.proofs.Firsts.{or_left, neither, inside_sinks, spec_not}
+use Rattle.cc_parse_laws.proofs.Peeks.{after, inside, at_token, punct_ident}
+use Rattle.cc_parse_laws.proofs.Firsts.{inside_sinks, spec_not}
 use Rattle.cc_parse_laws.proofs.Climbs.{bound, mapped, done, rest_is}
 use Rattle.cc_parse_laws.proofs.Listed as listed
 use Rattle.cc_parse_laws.proofs.Inner.{EndsSpecs}
@@ -93,11 +94,11 @@ module _ (names : Names) (inner : Inner) (d : ℕ) where
   enum_behind n t = where_next (λ ts. next_is the_punct.LeftBrace ts || untagged names inner d t) ((λ cs. enum n t (gathered_constants cs.0) cs.1) <$> constant_list names inner d) (pure (enum n t no_constants false))
 
   bare_struct : (n : Spot) (x : Name) (ts : List Token) → next_is the_punct.LeftBrace ts ≡ false → struct_behind n (Some x) ts ≡ Ok (struct n (Some x) no_members, ts)
-  bare_struct n x ts e = branch_false (next_is the_punct.LeftBrace ts || false) ((λ ms. struct n (Some x) (gathered_members ms)) <$> member_list names inner d) (pure (struct n (Some x) no_members)) ts (neither (next_is the_punct.LeftBrace ts) false e refl)
+  bare_struct n x ts e = branch_false (next_is the_punct.LeftBrace ts || false) ((λ ms. struct n (Some x) (gathered_members ms)) <$> member_list names inner d) (pure (struct n (Some x) no_members)) ts (or_from (next_is the_punct.LeftBrace ts) false e refl)
 
   bare_enum : (n : Spot) (x : Name) (ts : List Token) → next_is the_punct.LeftBrace ts ≡ false → enum_behind n (Some x) ts ≡ Ok (enum n (Some x) no_constants false, ts)
   bare_enum n x ts e =
-      branch_false (next_is the_punct.LeftBrace ts || false) ((λ cs. enum n (Some x) (gathered_constants cs.0) cs.1) <$> constant_list names inner d) (pure (enum n (Some x) no_constants false)) ts (neither (next_is the_punct.LeftBrace ts) false e refl)
+      branch_false (next_is the_punct.LeftBrace ts || false) ((λ cs. enum n (Some x) (gathered_constants cs.0) cs.1) <$> constant_list names inner d) (pure (enum n (Some x) no_constants false)) ts (or_from (next_is the_punct.LeftBrace ts) false e refl)
 
   full_struct : MembersAgain → (n : Spot) (t : Option Name) (m : MemberTree Spot) (ms : MemberTrees Spot) (ts r : List Token) → Reads (outlines.member_list names (more_members m ms)) d ts r → struct_behind n t ts ≡ Ok (struct n t (more_members m ms), r)
   full_struct again n t m ms ts r y =
@@ -120,7 +121,7 @@ module _ (names : Names) (inner : Inner) (d : ℕ) where
   struct_again again n None no_members ts q m shaped y z e = absurd shaped
   struct_again again n None (more_members l ls) ts q m shaped y z e =
       let here : Reads (outlines.member_list names (more_members l ls)) d ts m = subst (λ us. Reads (outlines.member_list names (more_members l ls)) d us m) (sym y) z in
-      bound (struct_behind n) (tag names inner d ts) None ts (tag_none ts (sign_ident the_punct.LeftBrace ts (members_begin l ls ts m here))) ∙ full_struct again n None l ls ts m here
+      bound (struct_behind n) (tag names inner d ts) None ts (tag_none ts (punct_ident the_punct.LeftBrace ts (members_begin l ls ts m here))) ∙ full_struct again n None l ls ts m here
   struct_again again n (Some x) no_members ts q m shaped y z e =
       bound (struct_behind n) (tag names inner d ts) (Some x) q (tag_some x ts q y) ∙ bare_struct n x q (ap (next_is the_punct.LeftBrace) z ∙ e) ∙ rest_is (struct n (Some x) no_members) q m z
   struct_again again n (Some x) (more_members l ls) ts q m shaped y z e =
@@ -131,7 +132,7 @@ module _ (names : Names) (inner : Inner) (d : ℕ) where
   enum_again again n None no_constants trailing ts q m shaped y z e = absurd shaped
   enum_again again n None (more_constants c cs) trailing ts q m shaped y z e =
       let here : Reads (outlines.constant_list names (more_constants c cs) trailing) d ts m = subst (λ us. Reads (outlines.constant_list names (more_constants c cs) trailing) d us m) (sym y) z in
-      bound (enum_behind n) (tag names inner d ts) None ts (tag_none ts (sign_ident the_punct.LeftBrace ts (constants_begin c cs trailing ts m here))) ∙ full_enum again n None c cs trailing ts m here
+      bound (enum_behind n) (tag names inner d ts) None ts (tag_none ts (punct_ident the_punct.LeftBrace ts (constants_begin c cs trailing ts m here))) ∙ full_enum again n None c cs trailing ts m here
   enum_again again n (Some x) no_constants true ts q m shaped y z e = absurd shaped
   enum_again again n (Some x) no_constants false ts q m shaped y z e =
       bound (enum_behind n) (tag names inner d ts) (Some x) q (tag_some x ts q y) ∙ bare_enum n x q (ap (next_is the_punct.LeftBrace) z ∙ e) ∙ rest_is (enum n (Some x) no_constants false) q m z

@@ -1,5 +1,6 @@
 -- With which tokens expressions, specifiers and declarators begin.
 use Rattle.std.proofs.Common.{◌≡◌, ◌≤◌, refl, ℕ, zero, suc, Bool, true, false, List, [], ◌∷◌, Option, Some, arith, sym, ap, ◌∙◌}
+use Rattle.std.proofs.lemmas.Bool.{and_left, and_right}
 use Rattle.std.specs.Prelude.{◌&&◌, ◌||◌}
 use Rattle.cc_arith.specs.declared.binary_operator.IntOp.{IntOp}
 use Rattle.cc_arith.specs.declared.binary_operator.IntOp.TheVariants as int
@@ -28,7 +29,7 @@ use Rattle.cc_grammar.specs.Outlines as outlines
 use Rattle.cc_grammar.specs.Classes.{next_is, skip, spot, is_punct, start, start_kind, start_punct, Start, begins_name, begins_integer, begins_character, begins_string, begins_paren, begins_unary, begins_step, begins_sizeof, begins_nothing, spec_kind, spec_keyword, starts_spec, is_spec}
 use Rattle.cc_parse_laws.proofs.Spans.{Inside, Reads, reads_depth, reads_within}
 use Rattle.cc_parse_laws.proofs.Steps.{next_token}
-use Rattle.cc_parse_laws.proofs.Peeks.{after, inside, at_token, at_punct, sign_spec}
+use Rattle.cc_parse_laws.proofs.Peeks.{after, inside, at_token, at_punct, punct_spec}
 use Rattle.cc_parse_laws.proofs.Inner.{ReadsExpr}
 
 -- what is read in a counted node is read at the node's own depth too
@@ -36,26 +37,6 @@ pub inside_sinks : (c : Bool) (i : Outline) (d : ℕ) (ts r : List Token) → In
 inside_sinks false i d ts r x = x
 inside_sinks true i zero ts r x = absurd x
 inside_sinks true i (suc d) ts r x = reads_within i d (suc d) ts r x (omega (arith, reads_depth i d ts r x))
-
-pub and_left : (a b : Bool) → a ≡ false → a && b ≡ false
-and_left a b e = rw e refl
-
-pub and_right : (a b : Bool) → b ≡ false → a && b ≡ false
-and_right true b e = e
-and_right false b e = refl
-
-pub and_both : (a b : Bool) → a ≡ true → b ≡ true → a && b ≡ true
-and_both a b e f = rw (e, f) refl
-
-pub or_left : (a b : Bool) → a ≡ true → (a || b) ≡ true
-or_left a b e = rw e refl
-
-pub or_right : (a b : Bool) → b ≡ true → (a || b) ≡ true
-or_right true b e = refl
-or_right false b e = e
-
-pub neither : (a b : Bool) → a ≡ false → b ≡ false → (a || b) ≡ false
-neither a b e f = rw (e, f) refl
 
 -- ---- Expressions
 
@@ -250,4 +231,4 @@ spec_not names q ts x = by (next_is q ts) refl
   where
     by : (b : Bool) → next_is q ts ≡ b → next_is q ts ≡ false
     by false e = e
-    by true e = let no : starts_spec names ts ≡ false = sign_spec names q ts e in absurd cc
+    by true e = let no : starts_spec names ts ≡ false = punct_spec names q ts e in absurd cc

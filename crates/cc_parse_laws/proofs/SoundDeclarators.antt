@@ -9,7 +9,7 @@ use Rattle.cc_tree.specs.Trees.{ExprOption, no_expr, an_expr, DeclTree, declared
 use Rattle.cc_tree.specs.Views.{gathered_types}
 use Rattle.cc_tree.specs.Depth as depths
 use Rattle.cc_grammar.specs.Names.{Names}
-use Rattle.cc_grammar.specs.Outline.{Outline, end, part, ◌▸◌, Stands}
+use Rattle.cc_grammar.specs.Outline.{Outline, end, part, ◌▸◌, FitsSpot}
 use Rattle.cc_grammar.specs.Outlines as outlines
 use Rattle.cc_grammar.specs.Classes.{next_is, next_is_keyword, skip, spot, next_ident}
 use Rattle.cc_grammar.specs.Outcomes.{Parser, take, ◌>>=◌, ◌>>◌, pure, ◌<$>◌, refuse}
@@ -33,7 +33,7 @@ has_spot (array m f length) n = refl
 has_spot (function m f ps) n = refl
 has_spot (grouped m f) n = refl
 
-pub suffix_stands : (f : DeclTree Spot) (n : Spot) → Stands (outlines.suffix_spot f (spot_or f n)) n
+pub suffix_stands : (f : DeclTree Spot) (n : Spot) → FitsSpot (outlines.suffix_spot f (spot_or f n)) n
 suffix_stands (declared m x) n = tt
 suffix_stands nameless n = refl
 suffix_stands (pointer m c f) n = tt
@@ -46,16 +46,16 @@ closes_over f n e =
     let same : opening f n ≡ spot_or f n = rw e refl in
     subst (outlines.HasSpot f) (sym same) (has_spot f n)
 
-pub opening_stands : (f : DeclTree Spot) (n : Spot) → Stands (outlines.opening_spot f (opening f n)) n
+pub opening_stands : (f : DeclTree Spot) (n : Spot) → FitsSpot (outlines.opening_spot f (opening f n)) n
 opening_stands f n = by (outlines.is_named f) refl
   where
-    by : (b : Bool) → outlines.is_named f ≡ b → Stands (outlines.opening_spot f (opening f n)) n
+    by : (b : Bool) → outlines.is_named f ≡ b → FitsSpot (outlines.opening_spot f (opening f n)) n
     by true e =
         let none : outlines.opening_spot f (opening f n) ≡ None = rw e refl in
-        subst (λ s. Stands s n) (sym none) tt
+        subst (λ s. FitsSpot s n) (sym none) tt
     by false e =
         let some : outlines.opening_spot f (opening f n) ≡ Some n = rw e refl in
-        subst (λ s. Stands s n) (sym some) refl
+        subst (λ s. FitsSpot s n) (sym some) refl
 
 -- ---- Names
 

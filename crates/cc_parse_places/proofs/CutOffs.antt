@@ -7,6 +7,7 @@ use Rattle.cc_grammar.specs.Outline.{Outline, end, token, part, Meets, size, fir
 use Rattle.cc_grammar.specs.Outlines as outlines
 use Rattle.cc_grammar.specs.Outcomes.{Outcome}
 use Rattle.cc_grammar.specs.Reading.{reading}
+use Rattle.cc_grammar.specs.CutOff.{CutOff}
 use Rattle.cc_parse_laws.proofs.Spans.{Inside, Reads, spelled_reads}
 use Rattle.cc_parse_places.proofs.Forks.{left}
 use Rattle.cc_parse_places.proofs.Begun.{Cut, Begun, cut_here}
@@ -44,7 +45,7 @@ no_more [] m = refl
 no_more (t ∷ ts) m = absurd m
 
 -- a cut-off file is one that is begun
-cut_off_begun : (d : ℕ) (tokens : List Token) (c : outlines.CutOff d tokens) → Begun (outlines.file c.tree) d tokens []
+cut_off_begun : (d : ℕ) (tokens : List Token) (c : CutOff d tokens) → Begun (outlines.file c.tree) d tokens []
 cut_off_begun d tokens c =
     let i = first c.there (outlines.file c.tree) in
     let s = spelled_reads i d tokens [] c.orderly c.shallow c.spelled in
@@ -57,11 +58,11 @@ not_at_a_token d tokens t rest e s =
     cc
 
 -- No cut-off file has the refused token as its last.
-pub no_cut_off_file_begins_so : (d : ℕ) (tokens : List Token) (t : Token) (rest : List Token) → reading d tokens ≡ Err (t ∷ rest) → outlines.CutOff d (take (length tokens - length rest) tokens) → ⊥
+pub no_cut_off_file_begins_so : (d : ℕ) (tokens : List Token) (t : Token) (rest : List Token) → reading d tokens ≡ Err (t ∷ rest) → CutOff d (take (length tokens - length rest) tokens) → ⊥
 no_cut_off_file_begins_so d tokens t rest failed c =
     let parts = left_is_the_end d tokens t rest failed in
     let upto = parts.0 ++ t ∷ [] in
     let fails : reading d upto ≡ Err (t ∷ []) = refused_whatever_follows d parts.0 t rest [] (ap (reading d) (sym parts.1) ∙ failed) in
     let same : take (length tokens - length rest) tokens ≡ upto = sym (append-nil (take (length tokens - length rest) tokens)) ∙ before_rest parts.0 t tokens rest [] parts.1 in
-    let here : outlines.CutOff d upto = subst (outlines.CutOff d) same c in
+    let here : CutOff d upto = subst (CutOff d) same c in
     not_at_a_token d upto t [] fails (file_spent d upto here.tree (cut_off_begun d upto here))

@@ -6,7 +6,7 @@ use Rattle.cc_lex.specs.declared.token.Token.{Token}
 use Rattle.cc_lex.specs.declared.token.TokenKind.{TokenKind}
 use Rattle.cc_lex.specs.declared.token.TokenKind.TheVariants as kind
 use Rattle.cc_lex.specs.declared.punct.Punct.{Punct}
-use Rattle.cc_grammar.specs.Outline.{Outline, end, token, part, Stands}
+use Rattle.cc_grammar.specs.Outline.{Outline, end, token, part, FitsSpot}
 use Rattle.cc_grammar.specs.Classes.{next_is, skip, spot}
 use Rattle.cc_grammar.specs.Outcomes.{Outcome, Parser, and_then, pure}
 use Rattle.cc_grammar.specs.Reading.{branch}
@@ -68,10 +68,10 @@ inside_read true i zero ts r x = absurd x
 inside_read true i (suc d) ts r x = reads_begun x
 
 -- it has nothing of its first token, or that
-pub token_elim : {X : Type 0} {h : Type 0} {k : TokenKind} {s : Option Spot} {o : Outline} {d : ℕ} (ts : List Token) → Begun (token h k s o) d ts [] → (ts ≡ [] → X) → (h → NextKind k ts → Stands s (spot ts) → Begun o d (skip ts) [] → X) → X
+pub token_elim : {X : Type 0} {h : Type 0} {k : TokenKind} {s : Option Spot} {o : Outline} {d : ℕ} (ts : List Token) → Begun (token h k s o) d ts [] → (ts ≡ [] → X) → (h → NextKind k ts → FitsSpot s (spot ts) → Begun o d (skip ts) [] → X) → X
 token_elim {X} {h} {k} {s} {o} {d} ts b nil there = by ts b.cut nil there
   where
-    by : (ts : List Token) → Cut (token h k s o) d ts [] → (ts ≡ [] → X) → (h → NextKind k ts → Stands s (spot ts) → Begun o d (skip ts) [] → X) → X
+    by : (ts : List Token) → Cut (token h k s o) d ts [] → (ts ≡ [] → X) → (h → NextKind k ts → FitsSpot s (spot ts) → Begun o d (skip ts) [] → X) → X
     by [] x f g = f x
     by (t ∷ ts) (inl e) f g = f e
     by (t ∷ ts) (inr x) f g = g x.0 x.1 x.2 (record { cut = x.3 })
@@ -123,6 +123,6 @@ pub at_kind : {B : Type 0} (f : List Token → B) (g : TokenKind → B) → ((t 
 at_kind f g same k [] e = absurd e
 at_kind f g same k (t ∷ ts) e = same t ts ∙ ap g e
 
-pub kind_sign : (s : Punct) (ts : List Token) → NextKind (kind.Punct s) ts → next_is s ts ≡ true
-kind_sign s [] e = absurd e
-kind_sign s (t ∷ ts) e = kind_punct s t.kind e
+pub next_kind_punct : (s : Punct) (ts : List Token) → NextKind (kind.Punct s) ts → next_is s ts ≡ true
+next_kind_punct s [] e = absurd e
+next_kind_punct s (t ∷ ts) e = kind_punct s t.kind e

@@ -18,30 +18,30 @@ use Rattle.cc_grammar.specs.Reading.{readers, condition, clause_until, start_cla
 use Rattle.cc_parse_laws.proofs.Spans.{Inside, Reads}
 use Rattle.cc_parse_laws.proofs.Steps.{branch_true, branch_false, kind_keyword}
 use Rattle.cc_parse_laws.proofs.Lists.{takes}
-use Rattle.cc_parse_laws.proofs.Peeks.{sign_ends, sign_spec}
+use Rattle.cc_parse_laws.proofs.Peeks.{punct_ends, punct_spec}
 use Rattle.cc_parse_laws.proofs.NextTokens.{NextKind}
 use Rattle.cc_parse_laws.proofs.Firsts.{first_operand, opens_not, OpensExpr}
 use Rattle.cc_parse_laws.proofs.Climbs.{bound}
 use Rattle.cc_parse_laws.proofs.CompleteReaders.{readers_complete}
 use Rattle.cc_parse_laws.proofs.CompleteStatements.{start_again}
 use Rattle.cc_parse_places.proofs.Begun.{Begun}
-use Rattle.cc_parse_places.proofs.Spent.{Spent, spent_bind, spent_map, spent_is, HasNext, no_next, Within, token_elim, part_elim, last_within, begun_sinks, kind_sign}
+use Rattle.cc_parse_places.proofs.Spent.{Spent, spent_bind, spent_map, spent_is, HasNext, no_next, Within, token_elim, part_elim, last_within, begun_sinks, next_kind_punct}
 use Rattle.cc_parse_places.proofs.SpentFirsts.{begun_opens}
 use Rattle.cc_parse_places.proofs.SpentTypes.{by_next}
 use Rattle.cc_parse_places.proofs.SpentReaders.{readers_spent}
 use Rattle.cc_parse_places.proofs.SpentDeclarations.{declaration_spent, declaration_starts}
 
-pub kind_key : (w : Keyword) (ts : List Token) → NextKind (kind.Keyword w) ts → next_is_keyword w ts ≡ true
-kind_key w [] e = absurd e
-kind_key w (t ∷ ts) e = kind_keyword w t.kind e
+pub next_kind_keyword : (w : Keyword) (ts : List Token) → NextKind (kind.Keyword w) ts → next_is_keyword w ts ≡ true
+next_kind_keyword w [] e = absurd e
+next_kind_keyword w (t ∷ ts) e = kind_keyword w t.kind e
 
-pub takes_key : (w : Keyword) (ts : List Token) → next_is_keyword w ts ≡ true → take_keyword w ts ≡ Ok (tt, skip ts)
-takes_key w [] e = absurd cc
-takes_key w (t ∷ ts) e = rw e refl
+pub takes_keyword : (w : Keyword) (ts : List Token) → next_is_keyword w ts ≡ true → take_keyword w ts ≡ Ok (tt, skip ts)
+takes_keyword w [] e = absurd cc
+takes_keyword w (t ∷ ts) e = rw e refl
 
 -- a last token
 pub until_spent : {A : Type 0} (s : Punct) (a : A) (d : ℕ) (m : List Token) → Begun (outlines.punct s end) d m [] → Spent (and_then (take s m) (λ z. pure a))
-until_spent s a d m x = token_elim m x (λ e. spent_is _ _ (ap (λ us. and_then (take s us) (λ z. pure a)) e) refl) (λ u next st rest. spent_is _ _ (ap (λ z. and_then z (λ w. pure a)) (takes s m (kind_sign s m next))) rest.cut)
+until_spent s a d m x = token_elim m x (λ e. spent_is _ _ (ap (λ us. and_then (take s us) (λ z. pure a)) e) refl) (λ u next st rest. spent_is _ _ (ap (λ z. and_then z (λ w. pure a)) (takes s m (next_kind_punct s m next))) rest.cut)
 
 pub expr_nil : (names : Names) (d least : ℕ) (ts : List Token) → 0 < least → ts ≡ [] → Spent ((readers names d).expr least ts)
 expr_nil names d least ts some e = (readers_spent names d).expr least (name spots.start []) ts some (inl e)
@@ -51,8 +51,8 @@ pub ended_spent : {A : Type 0} (s : Punct) (f : ExprTree Spot → A) (names : Na
     → Spent (and_then ((readers names d).expr least ts) (λ y us. and_then (take s us) (λ z. pure (f y))))
 ended_spent s f names d least e ts some looser x =
     part_elim ts x (λ w. spent_bind ((readers names d).expr least ts) _ ((readers_spent names d).expr least e ts some w) (λ y. refl))
-    (λ m more h y rest. token_elim m rest (no_next m more) (λ u next st last. let c = kind_sign s m next in
-    spent_is _ _ (bound (λ z us. and_then (take s us) (λ w. pure (f z))) ((readers names d).expr least ts) e m ((readers_complete names d).expr least e ts m h y (sign_ends least s m looser c)) ∙ ap (λ z. and_then z (λ w. pure (f e))) (takes s m c)) last.cut))
+    (λ m more h y rest. token_elim m rest (no_next m more) (λ u next st last. let c = next_kind_punct s m next in
+    spent_is _ _ (bound (λ z us. and_then (take s us) (λ w. pure (f z))) ((readers names d).expr least ts) e m ((readers_complete names d).expr least e ts m h y (punct_ends least s m looser c)) ∙ ap (λ z. and_then z (λ w. pure (f e))) (takes s m c)) last.cut))
 
 -- ---- Conditions, and what comes behind them
 
@@ -63,13 +63,13 @@ pub condition_elim : {A : Type 0} (inner : Names → Parser (StmtTree Spot)) (na
     → ((x : ExprTree Spot) → Spent (f x [])) → ((m : List Token) → Begun j d m [] → Spent (f c m)) → Spent (and_then (condition inner d names ts) f)
 condition_elim inner names d c j ts f x nil on =
     token_elim ts x (λ e. spent_bind (condition inner d names ts) f (condition_nil inner names d ts e) nil) (λ u next st rest.
-    let opening = takes the_punct.LeftParen ts (kind_sign the_punct.LeftParen ts next) in
+    let opening = takes the_punct.LeftParen ts (next_kind_punct the_punct.LeftParen ts next) in
     part_elim (skip ts) rest
     (λ w. spent_bind (condition inner d names ts) f
     (spent_bind (and_then (take the_punct.LeftParen ts) (λ z. (readers names d).expr 1)) _ (spent_is _ _ (ap (λ z. and_then z (λ w. (readers names d).expr 1)) opening) ((readers_spent names d).expr 1 c (skip ts) (omega arith) w)) (λ y. refl)) nil)
     (λ m more h y others. token_elim m others (no_next m more) (λ v closing s last.
-    let read : (readers names d).expr 1 (skip ts) ≡ Ok (c, m) = (readers_complete names d).expr 1 c (skip ts) m h y (sign_ends 1 the_punct.RightParen m (omega arith) (kind_sign the_punct.RightParen m closing)) in
-    let closed = takes the_punct.RightParen m (kind_sign the_punct.RightParen m closing) in
+    let read : (readers names d).expr 1 (skip ts) ≡ Ok (c, m) = (readers_complete names d).expr 1 c (skip ts) m h y (punct_ends 1 the_punct.RightParen m (omega arith) (next_kind_punct the_punct.RightParen m closing)) in
+    let closed = takes the_punct.RightParen m (next_kind_punct the_punct.RightParen m closing) in
     let all : condition inner d names ts ≡ Ok (c, skip m) = rw (opening, read, closed) refl in
     spent_is _ _ (bound f (condition inner d names ts) c (skip m) all) (on (skip m) last))))
 
@@ -94,7 +94,7 @@ pub clause_read : (inner : Names → Parser (StmtTree Spot)) (names : Names) (d 
 clause_read inner names d None s ts m looser none y e = branch_true (next_is s ts) (pure None) (Some <$> (readers names d).expr 1) ts (ap (next_is s) y ∙ e) ∙ ap (λ us. Ok (None, us)) y
 clause_read inner names d (Some e) s ts m looser none y c =
     let q = y.0 in
-    let read : (readers names d).expr 1 ts ≡ Ok (e, m) = (readers_complete names d).expr 1 e ts m y.1 (subst (λ us. Inside true (λ f. Reads (outlines.expr names e) f ts us) d) y.3 y.2) (sign_ends 1 s m looser c) in
+    let read : (readers names d).expr 1 ts ≡ Ok (e, m) = (readers_complete names d).expr 1 e ts m y.1 (subst (λ us. Inside true (λ f. Reads (outlines.expr names e) f ts us) d) y.3 y.2) (punct_ends 1 s m looser c) in
     branch_false (next_is s ts) (pure None) (Some <$> (readers names d).expr 1) ts (opens_not names s ts none (first_operand names e d ts y.0 y.2)) ∙ ap (λ z. and_then z (λ w. pure (Some w))) read
 
 -- ---- The first clause of a `for`
@@ -114,8 +114,8 @@ pub start_in : (inner : Names → Parser (StmtTree Spot)) (names : Names) (d : �
 start_in inner names d a ts (inl e) = start_nil inner names d ts e
 start_in inner names d (start_declaration a) ts (inr z) = declares_in inner names d a ts (last_within ts z.1)
 start_in inner names d no_start ts (inr z) =
-    token_elim ts z.1 (start_nil inner names d ts) (λ u next st rest. let c = kind_sign the_punct.Semicolon ts next in
-    spent_is _ _ (branch_false (starts_spec names ts) (counted_by d (λ e. start_declaration <$> declaration_at e names)) (start_expr_behind inner d names) ts (sign_spec names the_punct.Semicolon ts c)
+    token_elim ts z.1 (start_nil inner names d ts) (λ u next st rest. let c = next_kind_punct the_punct.Semicolon ts next in
+    spent_is _ _ (branch_false (starts_spec names ts) (counted_by d (λ e. start_declaration <$> declaration_at e names)) (start_expr_behind inner d names) ts (punct_spec names the_punct.Semicolon ts c)
     ∙ branch_true (next_is the_punct.Semicolon ts) (skipping (pure no_start)) ((readers names d).expr 1 >>= (λ e. take the_punct.Semicolon >> pure (start_expr e))) ts c) rest.cut)
 start_in inner names d (start_expr e) ts (inr z) =
     by_next ts (start_nil inner names d ts) (λ more. let x = opened more in

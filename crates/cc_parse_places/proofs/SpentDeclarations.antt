@@ -14,18 +14,18 @@ use Rattle.cc_grammar.specs.Outcomes.{Parser, and_then, take, pure, ◌<$>◌, �
 use Rattle.cc_grammar.specs.Reading.{readers, with_name, given, inits_behind, inits, declaration_at, where_next, skipping}
 use Rattle.cc_parse_laws.proofs.Spans.{Reads}
 use Rattle.cc_parse_laws.proofs.Steps.{branch_true, branch_false, reads_length}
-use Rattle.cc_parse_laws.proofs.Peeks.{sign_ends, sign_other, sign_ends_declarator, sign_ends_specs}
+use Rattle.cc_parse_laws.proofs.Peeks.{punct_ends, punct_other, punct_ends_declarator, punct_ends_specs}
 use Rattle.cc_parse_laws.proofs.NextTokens.{NextKind, kind_reads}
 use Rattle.cc_parse_laws.proofs.Inner.{ReadsDeclarator, EndsSpecs, EndsDeclarator}
 use Rattle.cc_parse_laws.proofs.Firsts.{first_specs}
-use Rattle.cc_parse_laws.proofs.Stands.{named_begins}
+use Rattle.cc_parse_laws.proofs.FirstTokens.{named_begins}
 use Rattle.cc_parse_laws.proofs.Climbs.{bound}
 use Rattle.cc_parse_laws.proofs.CompleteReaders.{readers_complete}
 use Rattle.cc_parse_laws.proofs.CompleteValues.{given_again}
 use Rattle.cc_parse_laws.proofs.CompleteDeclarations.{declaration_again}
 use Rattle.cc_parse_places.proofs.Begun.{Begun}
 use Rattle.cc_parse_places.proofs.BegunTypes.{missing}
-use Rattle.cc_parse_places.proofs.Spent.{Spent, spent_bind, spent_map, spent_is, HasNext, no_next, Within, token_elim, part_elim, last_within, begun_sinks, at_kind, kind_sign}
+use Rattle.cc_parse_places.proofs.Spent.{Spent, spent_bind, spent_map, spent_is, HasNext, no_next, Within, token_elim, part_elim, last_within, begun_sinks, at_kind, next_kind_punct}
 use Rattle.cc_parse_places.proofs.SpentLists.{skip_length}
 use Rattle.cc_parse_places.proofs.SpentTypes.{begun_declarator, begun_specs, specs_nil}
 use Rattle.cc_parse_places.proofs.SpentReaders.{readers_spent}
@@ -104,21 +104,21 @@ BehindCut names typedef d f v is ts = Within false (Unit {0}) (outlines.given (a
 given_ends : (names : Names) (d : ℕ) (v : Option (ValueTree Spot)) (ts : List Token) → HasNext ts → Within false (Unit {0}) (outlines.given names v) d ts → EndsDeclarator ts × (next_is the_punct.LeftBrace ts ≡ false)
 given_ends names d v ts more (inl e) = no_next ts more e
 given_ends names d None ts more (inr z) = let x = z.1 in no_next ts more x.cut
-given_ends names d (Some v) ts more (inr z) = token_elim ts z.1 (no_next ts more) (λ u next st rest. let c = kind_sign the_punct.Equal ts next in (sign_ends_declarator the_punct.Equal ts refl refl refl c, sign_other the_punct.LeftBrace the_punct.Equal ts refl c))
+given_ends names d (Some v) ts more (inr z) = token_elim ts z.1 (no_next ts more) (λ u next st rest. let c = next_kind_punct the_punct.Equal ts next in (punct_ends_declarator the_punct.Equal ts refl refl refl c, punct_other the_punct.LeftBrace the_punct.Equal ts refl c))
 
 comma_first : (names : Names) (typedef : Bool) (d : ℕ) (is : List (InitTree Spot)) (m : List Token) → HasNext m → Within false (Unit {0}) (outlines.more_inits names typedef is) d m → next_is the_punct.Comma m ≡ true
 comma_first names typedef d is m more (inl e) = no_next m more e
 comma_first names typedef d [] m more (inr z) = let x = z.1 in no_next m more x.cut
-comma_first names typedef d (init f v ∷ is) m more (inr z) = token_elim m z.1 (no_next m more) (λ u next st rest. kind_sign the_punct.Comma m next)
+comma_first names typedef d (init f v ∷ is) m more (inr z) = token_elim m z.1 (no_next m more) (λ u next st rest. next_kind_punct the_punct.Comma m next)
 
 -- what ends a declarator, where its initialiser is there
 read_ends : (names : Names) (d : ℕ) (v : Option (ValueTree Spot)) (ts m : List Token) → Reads (outlines.given names v) d ts m → EndsDeclarator m × (next_is the_punct.LeftBrace m ≡ false) → EndsDeclarator ts × (next_is the_punct.LeftBrace ts ≡ false)
 read_ends names d None ts m y e = subst (λ us. EndsDeclarator us × (next_is the_punct.LeftBrace us ≡ false)) (sym y) e
 read_ends names d (Some v) [] m y e = absurd y
-read_ends names d (Some v) (t ∷ ts) m y e = let c = kind_sign the_punct.Equal (t ∷ ts) y.1 in (sign_ends_declarator the_punct.Equal (t ∷ ts) refl refl refl c, sign_other the_punct.LeftBrace the_punct.Equal (t ∷ ts) refl c)
+read_ends names d (Some v) (t ∷ ts) m y e = let c = next_kind_punct the_punct.Equal (t ∷ ts) y.1 in (punct_ends_declarator the_punct.Equal (t ∷ ts) refl refl refl c, punct_other the_punct.LeftBrace the_punct.Equal (t ∷ ts) refl c)
 
 comma_ends : (m : List Token) → next_is the_punct.Comma m ≡ true → EndsDeclarator m × (next_is the_punct.LeftBrace m ≡ false)
-comma_ends m c = (sign_ends_declarator the_punct.Comma m refl refl refl c, sign_other the_punct.LeftBrace the_punct.Comma m refl c)
+comma_ends m c = (punct_ends_declarator the_punct.Comma m refl refl refl c, punct_other the_punct.LeftBrace the_punct.Comma m refl c)
 
 -- what ends a declarator of which something comes behind
 pub cut_ends : (names : Names) (typedef : Bool) (d : ℕ) (f : DeclTree Spot) (v : Option (ValueTree Spot)) (is : List (InitTree Spot)) (ts : List Token) → HasNext ts → BehindCut names typedef d f v is ts → EndsDeclarator ts × (next_is the_punct.LeftBrace ts ≡ false)
@@ -162,9 +162,9 @@ behind_spent (suc turns) [] names typedef d f v ts h (inr (m, more, g, inr z)) =
 behind_spent (suc turns) (init f2 v2 ∷ is) names typedef d f v ts h (inr (m, more, g, inr z)) =
     let known : Names = after_declarator typedef f names in
     token_elim m z.1 (no_next m more) (λ u next st rest.
-    let comma = kind_sign the_punct.Comma m next in
+    let comma = next_kind_punct the_punct.Comma m next in
     spent_is _ _
-    (bound (value_behind d typedef turns known f) (given known d ts) v m (given_again readers_complete known d v ts m g (sign_ends 2 the_punct.Comma m (omega arith) comma))
+    (bound (value_behind d typedef turns known f) (given known d ts) v m (given_again readers_complete known d v ts m g (punct_ends 2 the_punct.Comma m (omega arith) comma))
     ∙ branch_true (next_is the_punct.Comma m) (skipping (others_behind d typedef turns known f v)) (pure (init f v ∷ [])) m comma)
     (inits_elim known typedef d f2 v2 is (skip m) (inr (tt, rest))
     (λ w. spent_bind ((readers known d).declarator with_name (skip m)) _ ((readers_spent known d).declarator with_name f2 (skip m) w) (λ y. spent_map (inits_behind d typedef turns known y []) _ (behind_nil d typedef turns known y)))
@@ -196,7 +196,7 @@ declaration_nil d names ts e = spent_bind ((readers names d).specs ts) _ (specs_
 -- what comes behind the specifiers begins no others
 pub inits_first : (names : Names) (typedef : Bool) (d : ℕ) (is : List (InitTree Spot)) (m : List Token) → HasNext m → Begun (outlines.within (outlines.inits names typedef is) ▸ outlines.punct the_punct.Semicolon ▸ end) d m [] → EndsSpecs names m
 inits_first names typedef d [] m more x =
-    part_elim m x (λ w. by w) (λ c next u y rest. token_elim c rest (no_next c next) (λ v semicolon st last. subst (EndsSpecs names) (sym y) (sign_ends_specs names the_punct.Semicolon c refl (kind_sign the_punct.Semicolon c semicolon))))
+    part_elim m x (λ w. by w) (λ c next u y rest. token_elim c rest (no_next c next) (λ v semicolon st last. subst (EndsSpecs names) (sym y) (punct_ends_specs names the_punct.Semicolon c refl (next_kind_punct the_punct.Semicolon c semicolon))))
   where
     by : Within false (Unit {0}) (outlines.inits names typedef []) d m → EndsSpecs names m
     by (inl e) = no_next m more e

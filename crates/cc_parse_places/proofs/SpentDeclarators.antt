@@ -1,7 +1,7 @@
 -- Declarators that are begun are taken.
 use Rattle.std.proofs.Common.{◌≡◌, ◌≤◌, ◌<◌, ◌+◌, refl, ℕ, zero, suc, Bool, true, false, List, [], Some, None, arith, sym, ap, subst, ◌∙◌, ◌⊎◌, inl, inr}
 use Rattle.std.specs.Prelude.{◌&&◌, ◌==◌, nat_lt}
-use Rattle.std.proofs.lemmas.Bool.{lt-ltb}
+use Rattle.std.proofs.lemmas.Bool.{lt-ltb, and_from, or_left, or_right}
 use Rattle.cc_base.specs.declared.place.Spot.{Spot}
 use Rattle.cc_lex.specs.declared.token.Token.{Token}
 use Rattle.cc_lex.specs.declared.token.TokenKind.{TokenKind}
@@ -22,17 +22,17 @@ use Rattle.cc_grammar.specs.Reading.{Inner, Mode, with_name, without_name, with_
 use Rattle.cc_parse_laws.proofs.Spans.{Inside, Reads}
 use Rattle.cc_parse_laws.proofs.Steps.{branch_true, branch_false}
 use Rattle.cc_parse_laws.proofs.Lists.{takes}
-use Rattle.cc_parse_laws.proofs.Peeks.{sign_ident, sign_other}
+use Rattle.cc_parse_laws.proofs.Peeks.{punct_ident, punct_other}
 use Rattle.cc_parse_laws.proofs.NextTokens.{NextKind, kind_reads}
 use Rattle.cc_parse_laws.proofs.Inner.{ReadsDeclarator, CompleteInner, Suits}
-use Rattle.cc_parse_laws.proofs.Firsts.{inside_sinks, opens_not, and_both, or_left, or_right}
+use Rattle.cc_parse_laws.proofs.Firsts.{inside_sinks, opens_not}
 use Rattle.cc_parse_laws.proofs.FirstDeclarators.{no_const}
 use Rattle.cc_parse_laws.proofs.Climbs.{bound, not_zero}
 use Rattle.cc_parse_laws.proofs.Grows.{Suffixed, no_star, left_depth}
 use Rattle.cc_parse_laws.proofs.SoundDeclarators.{suits_too}
 use Rattle.cc_parse_laws.proofs.CompleteDeclarators.{consts_again, length_again, group_begins, no_name_comes, name_comes, group_comes, by_name, group_or, is_grown, declarator_again}
 use Rattle.cc_parse_places.proofs.Begun.{Begun, at}
-use Rattle.cc_parse_places.proofs.Spent.{Spent, spent_bind, spent_map, spent_branch, spent_is, HasNext, no_next, Within, token_elim, part_elim, last_within, begun_sinks, at_kind, kind_sign}
+use Rattle.cc_parse_places.proofs.Spent.{Spent, spent_bind, spent_map, spent_branch, spent_is, HasNext, no_next, Within, token_elim, part_elim, last_within, begun_sinks, at_kind, next_kind_punct}
 use Rattle.cc_parse_places.proofs.SpentFirsts.{begun_opens}
 use Rattle.cc_parse_places.proofs.SpentExpressions.{SpentInner}
 use Rattle.cc_parse_places.proofs.SpentTypes.{by_next, begun_declarator, declarator_nil, parameters_spent, parameters_ahead}
@@ -115,20 +115,20 @@ module _ (names : Names) (inner : Inner) (d : ℕ) (good : CompleteInner names i
       by : Within false (outlines.ClosesOver f n) (token (Unit {0}) (kind.Punct the_punct.Star) (outlines.opening_spot f n) ▸ outlines.within (outlines.consts c) ▸ outlines.any_one f (outlines.declarator names f) ▸ end) d ts → Taken mode ts
       by (inl e) = nil_taken mode ts e
       by (inr z) = token_elim ts z.1 (nil_taken mode ts) (λ h next st rest.
-          spent_is _ _ (branch_false (suc d == 0) (nothing names inner (suc d) mode) (where_next (next_is the_punct.Star) (pointer_behind mode) (direct_behind mode)) ts (not_zero d) ∙ branch_true (next_is the_punct.Star ts) (pointer_behind mode) (direct_behind mode) ts (kind_sign the_punct.Star ts next))
+          spent_is _ _ (branch_false (suc d == 0) (nothing names inner (suc d) mode) (where_next (next_is the_punct.Star) (pointer_behind mode) (direct_behind mode)) ts (not_zero d) ∙ branch_true (next_is the_punct.Star ts) (pointer_behind mode) (direct_behind mode) ts (next_kind_punct the_punct.Star ts next))
           (star_taken mode c f (spot ts) (skip ts) (suits_too mode (pointer n c f) f refl suits) rest))
 
   -- what is begun in parentheses
   group_taken : (mode : Mode) (f : DeclTree Spot) (ts : List Token) → Suits mode f → NextKind (kind.Punct the_punct.LeftParen) ts → next_is the_punct.RightParen (skip ts) ≡ false → starts_spec names (skip ts) ≡ false
       → Within (outlines.is_written f) (Suits mode f) (outlines.declarator names f) d (skip ts) → Taken mode ts
   group_taken mode f ts suits next a b w =
-      let opening_next = kind_sign the_punct.LeftParen ts next in
+      let opening_next = next_kind_punct the_punct.LeftParen ts next in
       not_star mode ts (star_not (kind.Punct the_punct.LeftParen) ts refl next)
       (spent_bind (direct names inner (suc d) mode ts) _
       (spent_is _ _
-      (branch_false (name_comes names inner d mode ts) (by_name names inner d) (group_or names inner d mode) ts (no_name_comes names inner d mode ts (sign_ident the_punct.LeftParen ts opening_next))
+      (branch_false (name_comes names inner d mode ts) (by_name names inner d) (group_or names inner d mode) ts (no_name_comes names inner d mode ts (punct_ident the_punct.LeftParen ts opening_next))
       ∙ branch_true (group_comes names inner d mode ts) (group names inner (suc d) mode) (nothing names inner (suc d) mode) ts
-      (and_both (next_is the_punct.LeftParen ts) (opposite (begins_parameters names inner (suc d) mode ts)) opening_next (ap opposite (group_begins names inner d mode ts a b))))
+      (and_from (next_is the_punct.LeftParen ts) (opposite (begins_parameters names inner (suc d) mode ts)) opening_next (ap opposite (group_begins names inner d mode ts a b))))
       (spent_bind (and_then (inner.declarator mode (skip ts)) (written_only names inner (suc d))) _
       (spent_bind (inner.declarator mode (skip ts)) _ (spent.declarator mode f (skip ts) w) (λ y. spent_branch (outlines.is_written y) (pure y) refuse [] (λ e. refl) (λ e. refl)))
       (λ y. refl)))
@@ -169,7 +169,7 @@ module _ (names : Names) (inner : Inner) (d : ℕ) (good : CompleteInner names i
       → suffix_comes names inner (suc d) m ≡ true → declarator_depth a < suc d → Spent (suffix names inner (suc d) a m) → Spent (direct_behind mode ts)
   suffix_taken mode zero ts a m enough same comes h s = absurd (omega (arith, enough, h))
   suffix_taken mode (suc turns) ts a m enough same comes h s =
-      spent_is _ _ (same ∙ branch_true (suffix_comes names inner (suc d) m && nat_lt (declarator_depth a) (suc d)) (suffix names inner (suc d) a >>= suffixes names inner (suc d) turns) (pure a) m (and_both (suffix_comes names inner (suc d) m) (nat_lt (declarator_depth a) (suc d)) comes (lt-ltb _ _ h)))
+      spent_is _ _ (same ∙ branch_true (suffix_comes names inner (suc d) m && nat_lt (declarator_depth a) (suc d)) (suffix names inner (suc d) a >>= suffixes names inner (suc d) turns) (pure a) m (and_from (suffix_comes names inner (suc d) m) (nat_lt (declarator_depth a) (suc d)) comes (lt-ltb _ _ h)))
       (spent_bind (suffix names inner (suc d) a m) _ s (suffixes_nil turns))
 
   behind_left : (mode : Mode) (a : DeclTree Spot) (ts m : List Token) → Suits mode a → outlines.is_direct a ≡ true → ReadsDeclarator names d a ts m → (outlines.is_written a ≡ false → Suffixed names m) → next_is the_punct.Star m ≡ false → suffix_comes names inner (suc d) m ≡ true
@@ -200,7 +200,7 @@ module _ (names : Names) (inner : Inner) (d : ℕ) (good : CompleteInner names i
   length_spent : (e : ExprOption Spot) (ts : List Token) → Begun (outlines.within (outlines.length_of names e) ▸ outlines.punct the_punct.RightBracket ▸ end) d ts [] → Spent (array_length names inner (suc d) ts)
   length_spent e ts x =
       part_elim ts x (length_in e ts)
-      (λ m more u y rest. token_elim m rest (no_next m more) (λ v next st last. let c = kind_sign the_punct.RightBracket m next in spent_is _ _ (length_again names inner d good e ts m y c (takes the_punct.RightBracket m c)) last.cut))
+      (λ m more u y rest. token_elim m rest (no_next m more) (λ v next st last. let c = next_kind_punct the_punct.RightBracket m next in spent_is _ _ (length_again names inner d good e ts m y c (takes the_punct.RightBracket m c)) last.cut))
 
   abbrev array_behind : DeclTree Spot → Spot → Parser (DeclTree Spot)
   array_behind a at = skipping (array (spot_or a at) a <$> array_length names inner (suc d))
@@ -215,8 +215,8 @@ module _ (names : Names) (inner : Inner) (d : ℕ) (good : CompleteInner names i
       by (inl z) = nil_taken mode ts z
       by (inr z) = let su = suits_too mode (array n a e) a refl suits in
           part_elim ts z.1 (left_taken mode a ts su ta)
-          (λ m more h q rest. token_elim m rest (no_next m more) (λ u next st right. let c = kind_sign the_punct.LeftBracket m next in
-          behind_left mode a ts m su h q (λ f. record { no_name = sign_ident the_punct.LeftBracket m c; paren = λ yes. absurd (let no : next_is the_punct.LeftParen m ≡ false = sign_other the_punct.LeftParen the_punct.LeftBracket m refl c in cc) }) (star_not (kind.Punct the_punct.LeftBracket) m refl next)
+          (λ m more h q rest. token_elim m rest (no_next m more) (λ u next st right. let c = next_kind_punct the_punct.LeftBracket m next in
+          behind_left mode a ts m su h q (λ f. record { no_name = punct_ident the_punct.LeftBracket m c; paren = λ yes. absurd (let no : next_is the_punct.LeftParen m ≡ false = punct_other the_punct.LeftParen the_punct.LeftBracket m refl c in cc) }) (star_not (kind.Punct the_punct.LeftBracket) m refl next)
           (or_left (next_is the_punct.LeftBracket m) (next_is the_punct.LeftParen m) c)
           (spent_is _ _ (branch_true (next_is the_punct.LeftBracket m) (array_behind a (spot m)) (function_behind a (spot m)) m c) (spent_map (array_length names inner (suc d) (skip m)) _ (length_spent e (skip m) right)))))
 
@@ -224,10 +224,10 @@ module _ (names : Names) (inner : Inner) (d : ℕ) (good : CompleteInner names i
   params_taken : (mode : Mode) (a : DeclTree Spot) (us : TypeTrees Spot) (ts m : List Token) → Suits mode a → outlines.is_direct a ≡ true → ReadsDeclarator names d a ts m → NextKind (kind.Punct the_punct.LeftParen) m → (outlines.is_written a ≡ false → HasNext (skip m))
       → Begun (outlines.within (outlines.parameters names us) ▸ outlines.punct the_punct.RightParen ▸ end) d (skip m) [] → Taken mode ts
   params_taken mode a us ts m suits h q next some right =
-      let c = kind_sign the_punct.LeftParen m next in
-      behind_left mode a ts m suits h q (λ f. record { no_name = sign_ident the_punct.LeftParen m c; paren = λ yes. parameters_ahead names inner d good spent us (skip m) (some f) right }) (star_not (kind.Punct the_punct.LeftParen) m refl next)
+      let c = next_kind_punct the_punct.LeftParen m next in
+      behind_left mode a ts m suits h q (λ f. record { no_name = punct_ident the_punct.LeftParen m c; paren = λ yes. parameters_ahead names inner d good spent us (skip m) (some f) right }) (star_not (kind.Punct the_punct.LeftParen) m refl next)
       (or_right (next_is the_punct.LeftBracket m) (next_is the_punct.LeftParen m) c)
-      (spent_is _ _ (branch_false (next_is the_punct.LeftBracket m) (array_behind a (spot m)) (function_behind a (spot m)) m (sign_other the_punct.LeftBracket the_punct.LeftParen m refl c)) (spent_map (parameters names inner (suc d) (skip m)) _ (parameters_spent names inner d good spent us (skip m) right)))
+      (spent_is _ _ (branch_false (next_is the_punct.LeftBracket m) (array_behind a (spot m)) (function_behind a (spot m)) m (punct_other the_punct.LeftBracket the_punct.LeftParen m refl c)) (spent_map (parameters names inner (suc d) (skip m)) _ (parameters_spent names inner d good spent us (skip m) right)))
 
   take_function : (n : Spot) (a : DeclTree Spot) (us : TypeTrees Spot) → IsTaken a → IsTaken (function n a us)
   take_function n a us ta mode ts suits y = by (last_within ts y)

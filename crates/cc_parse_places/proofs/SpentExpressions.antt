@@ -1,6 +1,6 @@
 -- An expression that is begun is taken.
 use Rattle.std.proofs.Common.{◌≡◌, ◌≤◌, ◌<◌, ◌+◌, refl, ℕ, ℤ, zero, suc, Bool, true, false, List, [], ◌∷◌, Option, Some, None, arith, sym, ap, subst, ◌∙◌, inl, inr, ◌&&◌, ◌==◌, nat_le}
-use Rattle.std.proofs.lemmas.Bool.{le-leb, ne_eqb}
+use Rattle.std.proofs.lemmas.Bool.{le-leb, ne_eqb, and_left, and_right, and_from}
 use Rattle.cc_base.specs.declared.place.Spot.{Spot}
 use Rattle.cc_lex.specs.declared.token.Token.{Token}
 use Rattle.cc_lex.specs.declared.token.TokenKind.{TokenKind}
@@ -18,7 +18,7 @@ use Rattle.cc_tree.specs.Trees.{ExprTree, name, integer, character, string, pare
 use Rattle.cc_tree.specs.Depth.{expr_depth}
 use Rattle.cc_grammar.specs.Levels.{level, binary_level, unary_punct, step_punct, binary_punct, assign_punct}
 use Rattle.cc_grammar.specs.Names.{Names, is_type}
-use Rattle.cc_grammar.specs.Outline.{Outline, end, ◌▸◌, Stands}
+use Rattle.cc_grammar.specs.Outline.{Outline, end, ◌▸◌, FitsSpot}
 use Rattle.cc_grammar.specs.Outlines as outlines
 use Rattle.cc_grammar.specs.Classes.{next_is, next_literal, literal, skip, spot, starts_spec, start, start_kind, Start, begins_paren, begins_unary, begins_step, begins_sizeof, begins_nothing, tail, tail_kind, tail_punct, Tail, goes_binary, goes_assign, goes_question, goes_comma, goes_call, goes_index, goes_dot, goes_arrow, goes_step, binds, left_level}
 use Rattle.cc_grammar.specs.Outcomes.{Parser, and_then, take, pure, refuse, ◌<$>◌, ◌>>=◌, ◌>>◌}
@@ -26,17 +26,17 @@ use Rattle.cc_grammar.specs.Reading.{Inner, Mode, without_name, prefix, climb, g
 use Rattle.cc_parse_laws.proofs.Spans.{Inside, Reads}
 use Rattle.cc_parse_laws.proofs.Steps.{branch_true, branch_false}
 use Rattle.cc_parse_laws.proofs.Lists.{takes}
-use Rattle.cc_parse_laws.proofs.Peeks.{sign_ends}
+use Rattle.cc_parse_laws.proofs.Peeks.{punct_ends}
 use Rattle.cc_parse_laws.proofs.NextTokens.{NextKind, kind_reads}
 use Rattle.cc_parse_laws.proofs.Inner.{ReadsExpr, Ends, CompleteInner, Suits}
-use Rattle.cc_parse_laws.proofs.Firsts.{inside_sinks, and_left, and_right, and_both, op_most, first_operand, type_ahead}
+use Rattle.cc_parse_laws.proofs.Firsts.{inside_sinks, op_most, first_operand, type_ahead}
 use Rattle.cc_parse_laws.proofs.Edges.{edge, edge_above, edge_postfix, edge_least, op_least}
 use Rattle.cc_parse_laws.proofs.Climbs.{bound, goes_on_is, left_depth, not_zero}
 use Rattle.cc_parse_laws.proofs.CompleteTypes.{id_again, type_again, first_type}
 use Rattle.cc_parse_laws.proofs.CompletePrefixes.{start_unary, start_step}
 use Rattle.cc_parse_laws.proofs.CompleteExpressions.{is_read, tail_binary, tail_assign, tail_step, expression_again}
 use Rattle.cc_parse_places.proofs.Begun.{Begun, at, token_then}
-use Rattle.cc_parse_places.proofs.Spent.{Spent, spent_bind, spent_map, spent_branch, spent_is, HasNext, no_next, Within, token_elim, part_elim, last_within, begun_sinks, at_kind, kind_sign}
+use Rattle.cc_parse_places.proofs.Spent.{Spent, spent_bind, spent_map, spent_branch, spent_is, HasNext, no_next, Within, token_elim, part_elim, last_within, begun_sinks, at_kind, next_kind_punct}
 use Rattle.cc_parse_places.proofs.SpentFirsts.{operand_no_spec, begun_ahead}
 
 -- The readers of what stands in a counted node take what is begun of it.
@@ -102,7 +102,7 @@ module _ (names : Names) (inner : Inner) (d : ℕ) (good : CompleteInner names i
   id_taken : (n : Option Spot) (x : List ℕ) (ts : List Token) → Begun (outlines.identifier names n x end) d ts [] → Spent (id names ts)
   id_taken n x ts b = token_elim ts b (λ e. spent_is _ _ (ap (id names) e) refl) (λ h next st rest. spent_is _ _ (id_again names n x end d ts (skip ts) (there ts h next st)) rest.cut)
     where
-      there : (ts : List Token) → is_type names x ≡ false → NextKind (kind.Identifier x) ts → Stands n (spot ts) → Reads (outlines.identifier names n x end) d ts (skip ts)
+      there : (ts : List Token) → is_type names x ≡ false → NextKind (kind.Identifier x) ts → FitsSpot n (spot ts) → Reads (outlines.identifier names n x end) d ts (skip ts)
       there [] h next st = absurd next
       there (t ∷ ts) h next st = (h, next, st, refl)
 
@@ -147,19 +147,19 @@ module _ (names : Names) (inner : Inner) (d : ℕ) (good : CompleteInner names i
   ended_taken q f least e ts some ends x =
       part_elim ts x (λ w. spent_bind (inner.expr least ts) _ (spent.expr least e ts some w) (λ y. refl))
       (λ m more h y rest. token_elim m rest (no_next m more) (λ u next st last.
-      spent_is _ _ (bound (λ z us. and_then (take q us) (λ w. pure (f z))) (inner.expr least ts) e m (good.expr least e ts m h y (ends m (kind_sign q m next))) ∙ ap (λ z. and_then z (λ w. pure (f e))) (takes q m (kind_sign q m next))) last.cut))
+      spent_is _ _ (bound (λ z us. and_then (take q us) (λ w. pure (f z))) (inner.expr least ts) e m (good.expr least e ts m h y (ends m (next_kind_punct q m next))) ∙ ap (λ z. and_then z (λ w. pure (f e))) (takes q m (next_kind_punct q m next))) last.cut))
 
   take_index : (n : Spot) (a i : ExprTree Spot) → IsTaken a → IsTaken (index n a i)
   take_index n a i ta least ts some l x =
       part_elim ts x (left_taken least a ts some (λ h. omega (arith, l, h)) ta)
       (λ m more h y rest. token_elim m rest (no_next m more) (λ u next st right.
-      behind the_punct.LeftBracket goes_index least a ts m y next refl (edge_postfix a h) (omega (arith, l, h)) l h (ended_taken the_punct.RightBracket (index (spot m) a) 1 i (skip m) (omega arith) (λ us c. sign_ends 1 the_punct.RightBracket us (omega arith) c) right)))
+      behind the_punct.LeftBracket goes_index least a ts m y next refl (edge_postfix a h) (omega (arith, l, h)) l h (ended_taken the_punct.RightBracket (index (spot m) a) 1 i (skip m) (omega arith) (λ us c. punct_ends 1 the_punct.RightBracket us (omega arith) c) right)))
 
   choice_behind : (n : Spot) (c a b : ExprTree Spot) (ts : List Token) → Begun (outlines.operand 1 a (outlines.expr names a) ▸ outlines.punct the_punct.Colon ▸ outlines.operand 3 b (outlines.expr names b) ▸ end) d ts [] → Spent (go_on names inner (suc d) c goes_question n ts)
   choice_behind n c a b ts x =
       part_elim ts x (λ w. spent_bind (inner.expr 1 ts) _ (spent.expr 1 a ts (omega arith) w) (λ y. refl))
       (λ m more h y rest. token_elim m rest (no_next m more) (λ u next st right.
-      spent_is _ _ (bound (λ z us. and_then (take the_punct.Colon us) (λ w. choice n c z <$> inner.expr 3)) (inner.expr 1 ts) a m (good.expr 1 a ts m h y (sign_ends 1 the_punct.Colon m (omega arith) (kind_sign the_punct.Colon m next))) ∙ ap (λ z. and_then z (λ w. choice n c a <$> inner.expr 3)) (takes the_punct.Colon m (kind_sign the_punct.Colon m next)))
+      spent_is _ _ (bound (λ z us. and_then (take the_punct.Colon us) (λ w. choice n c z <$> inner.expr 3)) (inner.expr 1 ts) a m (good.expr 1 a ts m h y (punct_ends 1 the_punct.Colon m (omega arith) (next_kind_punct the_punct.Colon m next))) ∙ ap (λ z. and_then z (λ w. choice n c a <$> inner.expr 3)) (takes the_punct.Colon m (next_kind_punct the_punct.Colon m next)))
       (right_taken (choice n c a) 3 b (skip m) (omega arith) right)))
 
   take_choice : (n : Spot) (c a b : ExprTree Spot) → IsTaken c → IsTaken (choice n c a b)
@@ -231,7 +231,7 @@ module _ (names : Names) (inner : Inner) (d : ℕ) (good : CompleteInner names i
       token_elim ts x (nil_taken least ts) (λ h next st rest.
       begins_taken least begins_paren ts (starts_at (kind.Punct the_punct.LeftParen) begins_paren ts refl next)
       (not_cast least (spot ts) (skip ts) (part_elim (skip ts) rest (operand_no_spec names e d (skip ts)) (λ m more g y last. (first_operand names e d (skip ts) m y).no_spec))
-      (ended_taken the_punct.RightParen (paren (spot ts)) 1 e (skip ts) (omega arith) (λ us c. sign_ends 1 the_punct.RightParen us (omega arith) c) rest)))
+      (ended_taken the_punct.RightParen (paren (spot ts)) 1 e (skip ts) (omega arith) (λ us c. punct_ends 1 the_punct.RightParen us (omega arith) c) rest)))
 
   take_unary : (n : Spot) (op : UnaryOp) (e : ExprTree Spot) → IsTaken (unary n op e)
   take_unary n op e least ts some l x =
@@ -250,16 +250,16 @@ module _ (names : Names) (inner : Inner) (d : ℕ) (good : CompleteInner names i
       (part_elim (skip ts) rest (λ w. by (spot ts) (skip ts) w)
       (λ m more g y others. token_elim m others (no_next m more) (λ u following stands right.
       spent_is _ _
-      (branch_true (starts_spec names (skip ts) && nat_le least 14) (cast_behind (spot ts)) (paren_behind (spot ts)) (skip ts) (and_both (starts_spec names (skip ts)) (nat_le least 14) (first_type names inner d good t (skip ts) m y) (le-leb _ _ l))
-      ∙ bound (λ c us. and_then (take the_punct.RightParen us) (λ z. cast (spot ts) c <$> inner.expr 14)) (typed names inner (suc d) without_name (skip ts)) t m (type_again names inner d good t (skip ts) m y (kind_sign the_punct.RightParen m following))
-      ∙ ap (λ z. and_then z (λ w. cast (spot ts) t <$> inner.expr 14)) (takes the_punct.RightParen m (kind_sign the_punct.RightParen m following)))
+      (branch_true (starts_spec names (skip ts) && nat_le least 14) (cast_behind (spot ts)) (paren_behind (spot ts)) (skip ts) (and_from (starts_spec names (skip ts)) (nat_le least 14) (first_type names inner d good t (skip ts) m y) (le-leb _ _ l))
+      ∙ bound (λ c us. and_then (take the_punct.RightParen us) (λ z. cast (spot ts) c <$> inner.expr 14)) (typed names inner (suc d) without_name (skip ts)) t m (type_again names inner d good t (skip ts) m y (next_kind_punct the_punct.RightParen m following))
+      ∙ ap (λ z. and_then z (λ w. cast (spot ts) t <$> inner.expr 14)) (takes the_punct.RightParen m (next_kind_punct the_punct.RightParen m following)))
       (right_taken (cast (spot ts) t) 14 e (skip m) (omega arith) right)))))
     where
       by : (k : Spot) (us : List Token) → Within false (Unit {0}) (outlines.type_of names t) d us → Spent (behind_paren names inner (suc d) least k us)
       by k us (inl z) = not_cast least k us (ap (starts_spec names) z) (paren_nil k us z)
       by k us (inr z) =
           by_next us (λ e. not_cast least k us (ap (starts_spec names) e) (paren_nil k us e))
-          (λ more. spent_is _ _ (branch_true (starts_spec names us && nat_le least 14) (cast_behind k) (paren_behind k) us (and_both (starts_spec names us) (nat_le least 14) (type_starts t us more z.1) (le-leb _ _ l)))
+          (λ more. spent_is _ _ (branch_true (starts_spec names us && nat_le least 14) (cast_behind k) (paren_behind k) us (and_from (starts_spec names us) (nat_le least 14) (type_starts t us more z.1) (le-leb _ _ l)))
           (spent_bind (typed names inner (suc d) without_name us) _ (typed_spent t us (inr z)) (λ y. refl)))
 
   -- ---- `sizeof`
@@ -307,10 +307,10 @@ module _ (names : Names) (inner : Inner) (d : ℕ) (good : CompleteInner names i
   only_paren n ts next z =
       not_type n ts (and_right (next_is the_punct.LeftParen ts) (starts_spec names (skip ts)) (ap (starts_spec names) z))
       (spent_branch (next_is the_punct.LeftParen ts && (suc d == 1)) (skipping refuse) (size_expr n <$> inner.expr 15) ts (λ e. z)
-      (λ e. spent_map (inner.expr 15 ts) (size_expr n) (spent.expr 15 (paren (spot ts) (name (spot ts) [])) ts (omega arith) (inr (omega arith, paren_begun d ts (and_rest (next_is the_punct.LeftParen ts) (suc d == 1) (kind_sign the_punct.LeftParen ts next) e) next z)))))
+      (λ e. spent_map (inner.expr 15 ts) (size_expr n) (spent.expr 15 (paren (spot ts) (name (spot ts) [])) ts (omega arith) (inr (omega arith, paren_begun d ts (and_rest (next_is the_punct.LeftParen ts) (suc d == 1) (next_kind_punct the_punct.LeftParen ts next) e) next z)))))
 
   is_a_type : (n : Spot) (ts : List Token) → NextKind (kind.Punct the_punct.LeftParen) ts → starts_spec names (skip ts) ≡ true → Spent (types_behind n ts) → Spent (behind_sizeof names inner (suc d) n ts)
-  is_a_type n ts next e s = spent_is _ _ (branch_true (type_ahead names ts) (types_behind n) (operands_behind n) ts (and_both (next_is the_punct.LeftParen ts) (starts_spec names (skip ts)) (kind_sign the_punct.LeftParen ts next) e)) s
+  is_a_type n ts next e s = spent_is _ _ (branch_true (type_ahead names ts) (types_behind n) (operands_behind n) ts (and_from (next_is the_punct.LeftParen ts) (starts_spec names (skip ts)) (next_kind_punct the_punct.LeftParen ts next) e)) s
 
   type_behind : (n : Spot) (t : TypeTree Spot) (ts : List Token) → NextKind (kind.Punct the_punct.LeftParen) ts → Within false (Unit {0}) (outlines.type_of names t) d (skip ts) → Spent (behind_sizeof names inner (suc d) n ts)
   type_behind n t ts next (inl z) = only_paren n ts next z
@@ -327,8 +327,8 @@ module _ (names : Names) (inner : Inner) (d : ℕ) (good : CompleteInner names i
       (λ m more f y others. token_elim m others (no_next m more) (λ u following s last.
       is_a_type (spot ts) (skip ts) begins (first_type names inner d good t (skip (skip ts)) m y)
       (spent_is _ _
-      (bound (λ c us. and_then (take the_punct.RightParen us) (λ z. pure (size_type (spot ts) c))) (typed names inner (suc d) without_name (skip (skip ts))) t m (type_again names inner d good t (skip (skip ts)) m y (kind_sign the_punct.RightParen m following))
-      ∙ ap (λ z. and_then z (λ w. pure (size_type (spot ts) t))) (takes the_punct.RightParen m (kind_sign the_punct.RightParen m following)))
+      (bound (λ c us. and_then (take the_punct.RightParen us) (λ z. pure (size_type (spot ts) c))) (typed names inner (suc d) without_name (skip (skip ts))) t m (type_again names inner d good t (skip (skip ts)) m y (next_kind_punct the_punct.RightParen m following))
+      ∙ ap (λ z. and_then z (λ w. pure (size_type (spot ts) t))) (takes the_punct.RightParen m (next_kind_punct the_punct.RightParen m following)))
       last.cut))))))
 
   -- ---- All expressions

@@ -11,7 +11,7 @@ use Rattle.cc_grammar.specs.Classes.{next_is, spot}
 use Rattle.cc_grammar.specs.Outcomes.{Parser, take as taking, pure, ◌<$>◌, ◌>>=◌, ◌>>◌}
 use Rattle.cc_grammar.specs.Reading.{readers, with_name, inits, body, stmt, external, external_behind, externals_by, ended, reading, where_next, skipping, spot_or}
 use Rattle.cc_parse_laws.proofs.Steps.{branch_true, branch_false, reads_length}
-use Rattle.cc_parse_laws.proofs.Peeks.{sign_ends_declarator}
+use Rattle.cc_parse_laws.proofs.Peeks.{punct_ends_declarator}
 use Rattle.cc_parse_laws.proofs.NextTokens.{kind_reads}
 use Rattle.cc_lex.specs.declared.token.TokenKind.TheVariants as kind
 use Rattle.cc_parse_laws.proofs.Inner.{EndsSpecs}
@@ -98,7 +98,7 @@ defined_spent d names n ss f b ts has x =
     (part_elim m rest (named_in d names (spot ts) ss f m more)
     (λ c next named q last. let w = last_within c last in let brace = body_first names d b c next w in let opens = named_opens names f d m c named q in
     spent_is _ _ (branch_false (next_is the_punct.Semicolon m) (skipping (pure (outer_declaration (declaration (spot ts) ss [])))) ((readers names d).declarator with_name >>= external_behind d names (spot ts) ss) m opens.no_semicolon
-    ∙ bound (external_behind d names (spot ts) ss) ((readers names d).declarator with_name m) f c ((readers_complete names d).declarator with_name f m c named q (sign_ends_declarator the_punct.LeftBrace c refl refl refl brace))
+    ∙ bound (external_behind d names (spot ts) ss) ((readers names d).declarator with_name m) f c ((readers_complete names d).declarator with_name f m c named q (punct_ends_declarator the_punct.LeftBrace c refl refl refl brace))
     ∙ branch_true (next_is the_punct.LeftBrace c) (defines d names (spot ts) ss f) (declares d names (spot ts) ss f) c brace)
     (spent_map (body (stmt d) d names c) (definition (spot_or f (spot ts)) ss f) (body_spent b names d c w)))))
 

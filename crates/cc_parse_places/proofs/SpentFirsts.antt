@@ -13,8 +13,9 @@ use Rattle.cc_grammar.specs.Names.{Names}
 use Rattle.cc_grammar.specs.Outline.{Outline, token, part}
 use Rattle.cc_grammar.specs.Outlines as outlines
 use Rattle.cc_grammar.specs.Classes.{next_is, skip, is_punct, start, start_kind, starts_spec, is_spec, spec_kind}
+use Rattle.std.proofs.lemmas.Bool.{and_left, and_right}
 use Rattle.cc_parse_laws.proofs.NextTokens.{NextKind}
-use Rattle.cc_parse_laws.proofs.Firsts.{OpensExpr, opens, first_operand, not_named, unary_opens, step_opens, op_most, type_ahead, and_left, and_right, no_type_ahead, inside_sinks, unary_no_paren, step_no_paren}
+use Rattle.cc_parse_laws.proofs.Firsts.{OpensExpr, opens, first_operand, not_named, unary_opens, step_opens, op_most, type_ahead, no_type_ahead, inside_sinks, unary_no_paren, step_no_paren}
 use Rattle.cc_parse_places.proofs.Begun.{Begun}
 use Rattle.cc_parse_places.proofs.Spent.{HasNext, no_next, Within, token_elim, part_elim, begun_sinks, at_kind}
 

@@ -17,7 +17,7 @@ use Rattle.cc_grammar.specs.Reading.{Inner, with_name, opposite, member_line, me
 use Rattle.cc_parse_laws.proofs.Spans.{Reads}
 use Rattle.cc_parse_laws.proofs.Steps.{branch_true, branch_false}
 use Rattle.cc_parse_laws.proofs.Lists.{takes}
-use Rattle.cc_parse_laws.proofs.Peeks.{sign_ends, sign_other, sign_ends_declarator}
+use Rattle.cc_parse_laws.proofs.Peeks.{punct_ends, punct_other, punct_ends_declarator}
 use Rattle.cc_parse_laws.proofs.NextTokens.{NextKind, kind_reads}
 use Rattle.cc_parse_laws.proofs.Inner.{EndsSpecs, EndsDeclarator, CompleteInner}
 use Rattle.cc_parse_laws.proofs.Firsts.{first_specs, spec_not}
@@ -26,7 +26,7 @@ use Rattle.cc_parse_laws.proofs.Listed as listed
 use Rattle.cc_parse_laws.proofs.CompleteTypes.{id_again}
 use Rattle.cc_parse_laws.proofs.CompleteMembers.{named_again, named_ends, line_again, members_again, Valued, one_again, one_opens, constants_again}
 use Rattle.cc_parse_places.proofs.Begun.{Begun, at}
-use Rattle.cc_parse_places.proofs.Spent.{Spent, spent_bind, spent_map, spent_is, HasNext, no_next, Within, token_elim, part_elim, last_within, at_kind, kind_sign}
+use Rattle.cc_parse_places.proofs.Spent.{Spent, spent_bind, spent_map, spent_is, HasNext, no_next, Within, token_elim, part_elim, last_within, at_kind, next_kind_punct}
 use Rattle.cc_parse_places.proofs.SpentLists.{OthersCut, SomeCut, FollowingCut, separated_spent, enclosed_by_spent, repeated_spent}
 use Rattle.cc_parse_places.proofs.SpentExpressions.{SpentInner}
 use Rattle.cc_parse_places.proofs.SpentTypes.{begun_specs, specs_nil, ends_specs}
@@ -42,7 +42,7 @@ module _ (names : Names) (inner : Inner) (d : ℕ) (good : CompleteInner names i
   other_named no_declarators m (inr z) = let x = z.1 in x.cut
   other_named (more_declarators f fs) m (inl z) = inl z
   other_named (more_declarators f fs) m (inr z) =
-      token_elim m z.1 (λ n. inl n) (λ v next st right. inr (kind_sign the_punct.Comma m next, part_elim (skip m) right (λ w. inl w) (λ c more h y rest. inr (c, more, (h, y), other_named fs c (last_within c rest)))))
+      token_elim m z.1 (λ n. inl n) (λ v next st right. inr (next_kind_punct the_punct.Comma m next, part_elim (skip m) right (λ w. inl w) (λ c more h y rest. inr (c, more, (h, y), other_named fs c (last_within c rest)))))
 
   some_named : (f : DeclTree Spot) (fs : DeclTrees Spot) (ts : List Token) → Begun (outlines.declarators names (more_declarators f fs)) d ts [] → SomeCut (listed.NamedSpan names d) NamedCut f (listed.declarators fs) ts
   some_named f fs ts x = part_elim ts x (λ w. inl w) (λ m more h y rest. inr (m, more, (h, y), other_named fs m (last_within m rest)))
@@ -72,7 +72,7 @@ module _ (names : Names) (inner : Inner) (d : ℕ) (good : CompleteInner names i
   named_spent at ss no_declarators m more (inr z) = absurd z.0
   named_spent at ss (more_declarators f fs) m more (inr z) =
       spent_bind (separated (inner.declarator with_name) m) _
-      (separated_spent (inner.declarator with_name) (listed.NamedSpan names d) NamedCut EndsDeclarator (λ us. sign_ends_declarator the_punct.Comma us refl refl refl) (named_again names inner d good) (λ g us c y. omega (arith, listed.named_shorter names d g us c y)) (λ g us w. spent.declarator with_name g us w)
+      (separated_spent (inner.declarator with_name) (listed.NamedSpan names d) NamedCut EndsDeclarator (λ us. punct_ends_declarator the_punct.Comma us refl refl refl) (named_again names inner d good) (λ g us c y. omega (arith, listed.named_shorter names d g us c y)) (λ g us w. spent.declarator with_name g us w)
       f (listed.declarators fs) m (some_named f fs m z.1))
       (λ y. refl)
 
@@ -128,7 +128,7 @@ module _ (names : Names) (inner : Inner) (d : ℕ) (good : CompleteInner names i
   lines_taken m ms ts next s =
       spent_is _ _ (branch_false (suc d == 0) refuse members_behind ts (not_zero d))
       (spent_bind (and_then (take the_punct.LeftBrace ts) (λ u. repeated listed.goes_on_lines (member_line names inner (suc d)))) _
-      (spent_is _ _ (bound (λ u. repeated listed.goes_on_lines (member_line names inner (suc d))) (take the_punct.LeftBrace ts) tt (skip ts) (takes the_punct.LeftBrace ts (kind_sign the_punct.LeftBrace ts next)))
+      (spent_is _ _ (bound (λ u. repeated listed.goes_on_lines (member_line names inner (suc d))) (take the_punct.LeftBrace ts) tt (skip ts) (takes the_punct.LeftBrace ts (next_kind_punct the_punct.LeftBrace ts next)))
       (repeated_spent listed.goes_on_lines (member_line names inner (suc d)) (listed.LineSpan names d) LineCut (λ us. Unit {0}) (λ us e. tt) (line_again names inner d good) (listed.line_shorter names d) line_spent (line_nil [] refl)
       (λ x us more w. ap opposite (spec_not names the_punct.RightBrace us (line_starts x us more w))) (λ x us c y. ap opposite (spec_not names the_punct.RightBrace us (listed.first_line names d x us c y))) m (listed.lines ms) (skip ts) s))
       (λ y. refl))
@@ -157,7 +157,7 @@ module _ (names : Names) (inner : Inner) (d : ℕ) (good : CompleteInner names i
   value_taken no_expr ts (inr z) = let x = z.1 in spent_is _ _ (ap (constant_value names inner (suc d)) x.cut) refl
   value_taken (an_expr e) ts (inr z) =
       token_elim ts z.1 (λ y. spent_is _ _ (ap (constant_value names inner (suc d)) y) refl) (λ u next st right.
-      spent_is _ _ (branch_true (next_is the_punct.Equal ts) (skipping (an_expr <$> inner.expr 3)) (pure no_expr) ts (kind_sign the_punct.Equal ts next)) (spent_map (inner.expr 3 (skip ts)) an_expr (spent.expr 3 e (skip ts) (omega arith) (last_within (skip ts) right))))
+      spent_is _ _ (branch_true (next_is the_punct.Equal ts) (skipping (an_expr <$> inner.expr 3)) (pure no_expr) ts (next_kind_punct the_punct.Equal ts next)) (spent_map (inner.expr 3 (skip ts)) an_expr (spent.expr 3 e (skip ts) (omega arith) (last_within (skip ts) right))))
 
   abbrev OneCut : ConstantTree Spot → List Token → Type 0
   OneCut c ts = Within false (Unit {0}) (outlines.constant_of names c) d ts
@@ -181,7 +181,7 @@ module _ (names : Names) (inner : Inner) (d : ℕ) (good : CompleteInner names i
   other_ones no_constants m (inr z) = let x = z.1 in x.cut
   other_ones (more_constants c cs) m (inl z) = inl z
   other_ones (more_constants c cs) m (inr z) =
-      token_elim m z.1 (λ n. inl n) (λ v next st right. inr (kind_sign the_punct.Comma m next, part_elim (skip m) right (λ w. inl w) (λ q more h y rest. inr (q, more, y, other_ones cs q (last_within q rest)))))
+      token_elim m z.1 (λ n. inl n) (λ v next st right. inr (next_kind_punct the_punct.Comma m next, part_elim (skip m) right (λ w. inl w) (λ q more h y rest. inr (q, more, y, other_ones cs q (last_within q rest)))))
 
   abbrev filler : ConstantTree Spot
   filler = constant spots.start [] no_expr
@@ -193,7 +193,7 @@ module _ (names : Names) (inner : Inner) (d : ℕ) (good : CompleteInner names i
   ones_comma (more_constants x cs) (t ∷ m) q y more c e =
       let z = y.3 in
       let rest : Reads (outlines.more_constants_of names cs) d z.0 q = subst (Reads (outlines.more_constants_of names cs) d z.0) z.3.3 z.3.2 in
-      inr (kind_sign the_punct.Comma (t ∷ m) y.1, inr (z.0, longer cs z.0 q rest more, z.2, ones_comma cs z.0 q rest more c e))
+      inr (next_kind_punct the_punct.Comma (t ∷ m) y.1, inr (z.0, longer cs z.0 q rest more, z.2, ones_comma cs z.0 q rest more c e))
     where
       longer : (cs : ConstantTrees Spot) (m q : List Token) → Reads (outlines.more_constants_of names cs) d m q → HasNext q → HasNext m
       longer no_constants m q y more = subst HasNext (sym y) more
@@ -205,8 +205,8 @@ module _ (names : Names) (inner : Inner) (d : ℕ) (good : CompleteInner names i
 
   ones_taken : (c : ConstantTree Spot) (cs : List (ConstantTree Spot)) (ts : List Token) → NextKind (kind.Punct the_punct.LeftBrace) ts → SomeCut (listed.ConstantSpan names d) OneCut c cs (skip ts) → Spent (constant_list names inner (suc d) ts)
   ones_taken c cs ts next s =
-      spent_is _ _ (branch_false (suc d == 0) refuse (enclosed (one_constant names inner (suc d))) ts (not_zero d) ∙ bound (λ u us. enclosed_by (one_constant names inner (suc d)) (length us) us) (take the_punct.LeftBrace ts) tt (skip ts) (takes the_punct.LeftBrace ts (kind_sign the_punct.LeftBrace ts next)))
-      (enclosed_by_spent (one_constant names inner (suc d)) (listed.ConstantSpan names d) OneCut (Valued names inner d good) (λ us e. (sign_ends 3 the_punct.Comma us (omega arith) e, sign_other the_punct.Equal the_punct.Comma us refl e)) (one_again names inner d good) (λ x us m y. omega (arith, listed.constant_shorter names d x us m y)) one_spent
+      spent_is _ _ (branch_false (suc d == 0) refuse (enclosed (one_constant names inner (suc d))) ts (not_zero d) ∙ bound (λ u us. enclosed_by (one_constant names inner (suc d)) (length us) us) (take the_punct.LeftBrace ts) tt (skip ts) (takes the_punct.LeftBrace ts (next_kind_punct the_punct.LeftBrace ts next)))
+      (enclosed_by_spent (one_constant names inner (suc d)) (listed.ConstantSpan names d) OneCut (Valued names inner d good) (λ us e. (punct_ends 3 the_punct.Comma us (omega arith) e, punct_other the_punct.Equal the_punct.Comma us refl e)) (one_again names inner d good) (λ x us m y. omega (arith, listed.constant_shorter names d x us m y)) one_spent
       one_not (λ x us m y. one_opens names inner d good x us m y) (length (skip ts)) cs c (skip ts) (omega arith) s)
 
   trailing_taken : (c : ConstantTree Spot) (cs : ConstantTrees Spot) (trailing : Bool) (ts m q : List Token) → NextKind (kind.Punct the_punct.LeftBrace) ts → HasNext m → Reads (outlines.constant_of names c) d (skip ts) m → HasNext q → Reads (outlines.more_constants_of names cs) d m q
@@ -214,7 +214,7 @@ module _ (names : Names) (inner : Inner) (d : ℕ) (good : CompleteInner names i
   trailing_taken c cs trailing ts m q next more y more2 z (inl e) = no_next q more2 e
   trailing_taken c cs false ts m q next more y more2 z (inr w) = let x = w.1 in no_next q more2 x.cut
   trailing_taken c cs true ts m q next more y more2 z (inr w) =
-      token_elim q w.1 (no_next q more2) (λ u comma st last. ones_taken c (listed.constants cs ++ filler ∷ []) ts next (inr (m, more, y, ones_comma cs m q z more2 (kind_sign the_punct.Comma q comma) last.cut)))
+      token_elim q w.1 (no_next q more2) (λ u comma st last. ones_taken c (listed.constants cs ++ filler ∷ []) ts next (inr (m, more, y, ones_comma cs m q z more2 (next_kind_punct the_punct.Comma q comma) last.cut)))
 
   pub constants_spent : (c : ConstantTree Spot) (cs : ConstantTrees Spot) (trailing : Bool) (ts : List Token) → Begun (outlines.constant_list names (more_constants c cs) trailing) (suc d) ts [] → Spent (constant_list names inner (suc d) ts)
   constants_spent c cs trailing ts x = by (last_within ts x)

@@ -15,16 +15,17 @@ use Rattle.cc_grammar.specs.Outlines as outlines
 use Rattle.cc_grammar.specs.Classes.{next_is, skip, spot, starts_spec, spec_start, spec_kind, SpecStart, spec_struct, spec_enum}
 use Rattle.cc_grammar.specs.Outcomes.{Parser, and_then, pure, ◌<$>◌}
 use Rattle.cc_grammar.specs.Reading.{Inner, specs, spec_by, tag, untagged, member_list, constant_list, repeated}
+use Rattle.std.proofs.lemmas.Bool.{or_left}
 use Rattle.cc_parse_laws.proofs.Spans.{Reads}
 use Rattle.cc_parse_laws.proofs.Steps.{branch_true}
-use Rattle.cc_parse_laws.proofs.Peeks.{sign_ident}
+use Rattle.cc_parse_laws.proofs.Peeks.{punct_ident}
 use Rattle.cc_parse_laws.proofs.NextTokens.{NextKind, kind_reads}
-use Rattle.cc_parse_laws.proofs.Firsts.{first_spec, spec_not, or_left}
+use Rattle.cc_parse_laws.proofs.Firsts.{first_spec, spec_not}
 use Rattle.cc_parse_laws.proofs.Climbs.{bound}
 use Rattle.cc_parse_laws.proofs.Listed as listed
 use Rattle.cc_parse_laws.proofs.CompleteSpecifiers.{MembersAgain, ConstantsAgain, one_spec, NoBrace, struct_behind, enum_behind, tag_none, tag_some, spec_again}
 use Rattle.cc_parse_places.proofs.Begun.{Begun}
-use Rattle.cc_parse_places.proofs.Spent.{Spent, spent_map, spent_is, HasNext, no_next, Within, token_elim, part_elim, last_within, begun_sinks, at_kind, kind_sign}
+use Rattle.cc_parse_places.proofs.Spent.{Spent, spent_map, spent_is, HasNext, no_next, Within, token_elim, part_elim, last_within, begun_sinks, at_kind, next_kind_punct}
 use Rattle.cc_parse_places.proofs.SpentLists.{FollowingCut, repeated_spent}
 use Rattle.cc_parse_places.proofs.SpentTypes.{begun_spec}
 
@@ -63,7 +64,7 @@ module _ (names : Names) (inner : Inner) (d : ℕ) (ma : MembersAgain names inne
       spent_is _ _ (bound f (tag names inner d ts) (Some x) [] (tag_some names inner d x ts [] (kind_reads (Unit {0}) (kind.Identifier x) None end d ts [] next tt tt rest.cut))) (s (Some x)))
 
   tag_read : (t : Option Name) (ts m : List Token) → Reads (outlines.tag_of t) d ts m → next_is the_punct.LeftBrace m ≡ true → tag names inner d ts ≡ Ok (t, m)
-  tag_read None ts m y e = tag_none names inner d ts (sign_ident the_punct.LeftBrace ts (ap (next_is the_punct.LeftBrace) y ∙ e)) ∙ ap (λ us. Ok (None, us)) y
+  tag_read None ts m y e = tag_none names inner d ts (punct_ident the_punct.LeftBrace ts (ap (next_is the_punct.LeftBrace) y ∙ e)) ∙ ap (λ us. Ok (None, us)) y
   tag_read (Some x) ts m y e = tag_some names inner d x ts m y
 
   members_first : (m : MemberTree Spot) (ms : MemberTrees Spot) (ts : List Token) → HasNext ts → Begun (outlines.member_list names (more_members m ms)) d ts [] → next_is the_punct.LeftBrace ts ≡ true
@@ -71,7 +72,7 @@ module _ (names : Names) (inner : Inner) (d : ℕ) (ma : MembersAgain names inne
     where
       by : Within true (Unit {0}) (outlines.punct the_punct.LeftBrace ▸ outlines.within (outlines.member_line names m) ▸ outlines.within (outlines.member_lines names ms) ▸ outlines.punct the_punct.RightBrace ▸ end) d ts → next_is the_punct.LeftBrace ts ≡ true
       by (inl e) = no_next ts more e
-      by (inr z) = token_elim ts (begun_sinks true (outlines.punct the_punct.LeftBrace ▸ outlines.within (outlines.member_line names m) ▸ outlines.within (outlines.member_lines names ms) ▸ outlines.punct the_punct.RightBrace ▸ end) d ts [] z.1) (no_next ts more) (λ u next st rest. kind_sign the_punct.LeftBrace ts next)
+      by (inr z) = token_elim ts (begun_sinks true (outlines.punct the_punct.LeftBrace ▸ outlines.within (outlines.member_line names m) ▸ outlines.within (outlines.member_lines names ms) ▸ outlines.punct the_punct.RightBrace ▸ end) d ts [] z.1) (no_next ts more) (λ u next st rest. next_kind_punct the_punct.LeftBrace ts next)
 
   struct_list : (n : Spot) (t : Option Name) (ms : MemberTrees Spot) (ts m : List Token) → HasNext m → Reads (outlines.tag_of t) d ts m → Within false (Unit {0}) (outlines.member_list names ms) d m → Spent (and_then (tag names inner d ts) (struct_behind names inner d n))
   struct_list n t ms ts m more y (inl e) = no_next m more e
@@ -96,7 +97,7 @@ module _ (names : Names) (inner : Inner) (d : ℕ) (ma : MembersAgain names inne
     where
       by : Within true (Unit {0}) (outlines.punct the_punct.LeftBrace ▸ outlines.within (outlines.constant_of names c) ▸ outlines.within (outlines.more_constants_of names cs) ▸ outlines.within (outlines.trailing_comma trailing) ▸ outlines.punct the_punct.RightBrace ▸ end) d ts → next_is the_punct.LeftBrace ts ≡ true
       by (inl e) = no_next ts more e
-      by (inr z) = token_elim ts (begun_sinks true (outlines.punct the_punct.LeftBrace ▸ outlines.within (outlines.constant_of names c) ▸ outlines.within (outlines.more_constants_of names cs) ▸ outlines.within (outlines.trailing_comma trailing) ▸ outlines.punct the_punct.RightBrace ▸ end) d ts [] z.1) (no_next ts more) (λ u next st rest. kind_sign the_punct.LeftBrace ts next)
+      by (inr z) = token_elim ts (begun_sinks true (outlines.punct the_punct.LeftBrace ▸ outlines.within (outlines.constant_of names c) ▸ outlines.within (outlines.more_constants_of names cs) ▸ outlines.within (outlines.trailing_comma trailing) ▸ outlines.punct the_punct.RightBrace ▸ end) d ts [] z.1) (no_next ts more) (λ u next st rest. next_kind_punct the_punct.LeftBrace ts next)
 
   enum_list : (n : Spot) (t : Option Name) (cs : ConstantTrees Spot) (trailing : Bool) (ts m : List Token) → HasNext m → Reads (outlines.tag_of t) d ts m → Within false (Unit {0}) (outlines.constant_list names cs trailing) d m → Spent (and_then (tag names inner d ts) (enum_behind names inner d n))
   enum_list n t cs trailing ts m more y (inl e) = no_next m more e

@@ -18,43 +18,43 @@ use Rattle.cc_grammar.specs.Reading.{readers, stmt, stmt_by, body, only_block, c
 use Rattle.cc_parse_laws.proofs.Spans.{Reads}
 use Rattle.cc_parse_laws.proofs.Steps.{branch_true, branch_false, reads_length}
 use Rattle.cc_parse_laws.proofs.Lists.{takes}
-use Rattle.cc_parse_laws.proofs.Peeks.{sign_spec, sign_other, punct_keyword}
-use Rattle.cc_parse_laws.proofs.Nexts.{sign_stmt, key_other, keyword_punct, key_spec, key_stmt, spec_no_else, expr_other, expr_no_else}
+use Rattle.cc_parse_laws.proofs.Peeks.{punct_spec, punct_other, punct_keyword}
+use Rattle.cc_parse_laws.proofs.Nexts.{punct_stmt, keyword_other, keyword_punct, keyword_spec, keyword_stmt, spec_no_else, expr_other, expr_no_else}
 use Rattle.cc_parse_laws.proofs.Firsts.{first_operand, opens_not, OpensExpr, spec_not}
 use Rattle.cc_parse_laws.proofs.Climbs.{bound}
 use Rattle.cc_parse_laws.proofs.CompleteReaders.{readers_complete}
 use Rattle.cc_parse_laws.proofs.CompleteBlocks.{is_label, OpensStmt, OpensItem, item_opens, no_label_by, is_item, item_size, stmt_again, items_again, are_items, listed}
 use Rattle.cc_parse_places.proofs.Begun.{Begun}
-use Rattle.cc_parse_places.proofs.Spent.{Spent, spent_bind, spent_map, spent_is, HasNext, no_next, Within, token_elim, part_elim, last_within, begun_sinks, kind_sign}
+use Rattle.cc_parse_places.proofs.Spent.{Spent, spent_bind, spent_map, spent_is, HasNext, no_next, Within, token_elim, part_elim, last_within, begun_sinks, next_kind_punct}
 use Rattle.cc_parse_places.proofs.SpentFirsts.{begun_opens}
 use Rattle.cc_parse_places.proofs.SpentTypes.{by_next}
 use Rattle.cc_parse_places.proofs.SpentDeclarations.{declaration_spent, declaration_starts}
-use Rattle.cc_parse_places.proofs.SpentClauses.{kind_key, takes_key, until_spent, expr_nil, ended_spent, condition_elim, clause_nil, clause_in, clause_read, start_in, start_read}
+use Rattle.cc_parse_places.proofs.SpentClauses.{next_kind_keyword, takes_keyword, until_spent, expr_nil, ended_spent, condition_elim, clause_nil, clause_in, clause_read, start_in, start_read}
 
 -- ---- How statements that are begun begin
 
 keyword_opens : (names : Names) (w : Keyword) (ts : List Token) → is_spec (spec_keyword w) ≡ false → same_keyword the_keyword.Else w ≡ false → is_label (stmt_keyword w) ≡ false → next_is_keyword w ts ≡ true → OpensStmt names ts
-keyword_opens names w ts a b c e = record { no_spec = key_spec names w ts a e; no_brace = keyword_punct the_punct.RightBrace w ts e; no_else = key_other the_keyword.Else w ts b e; no_label = ap is_label (key_stmt w ts e) ∙ c }
+keyword_opens names w ts a b c e = record { no_spec = keyword_spec names w ts a e; no_brace = keyword_punct the_punct.RightBrace w ts e; no_else = keyword_other the_keyword.Else w ts b e; no_label = ap is_label (keyword_stmt w ts e) ∙ c }
 
 punct_opens : (names : Names) (s : Punct) (ts : List Token) → same_punct the_punct.RightBrace s ≡ false → is_label (stmt_punct s) ≡ false → next_is s ts ≡ true → OpensStmt names ts
-punct_opens names s ts a b e = record { no_spec = sign_spec names s ts e; no_brace = sign_other the_punct.RightBrace s ts a e; no_else = punct_keyword the_keyword.Else s ts e; no_label = ap is_label (sign_stmt s ts e) ∙ b }
+punct_opens names s ts a b e = record { no_spec = punct_spec names s ts e; no_brace = punct_other the_punct.RightBrace s ts a e; no_else = punct_keyword the_keyword.Else s ts e; no_label = ap is_label (punct_stmt s ts e) ∙ b }
 
 -- the first token of a part that counts
-key_within : {h : Type 0} {m : Option Spot} {i : Outline} (names : Names) (w : Keyword) (d : ℕ) (ts : List Token) → HasNext ts → is_spec (spec_keyword w) ≡ false → same_keyword the_keyword.Else w ≡ false → is_label (stmt_keyword w) ≡ false
+keyword_within : {h : Type 0} {m : Option Spot} {i : Outline} (names : Names) (w : Keyword) (d : ℕ) (ts : List Token) → HasNext ts → is_spec (spec_keyword w) ≡ false → same_keyword the_keyword.Else w ≡ false → is_label (stmt_keyword w) ≡ false
     → Begun (part true h (token (Unit {0}) (kind.Keyword w) m i) end) d ts [] → OpensStmt names ts
-key_within {h} {m} {i} names w d ts more a b c x = by (last_within ts x)
+keyword_within {h} {m} {i} names w d ts more a b c x = by (last_within ts x)
   where
     by : Within true h (token (Unit {0}) (kind.Keyword w) m i) d ts → OpensStmt names ts
     by (inl e) = no_next ts more e
-    by (inr z) = token_elim ts (begun_sinks true (token (Unit {0}) (kind.Keyword w) m i) d ts [] z.1) (no_next ts more) (λ u next st rest. keyword_opens names w ts a b c (kind_key w ts next))
+    by (inr z) = token_elim ts (begun_sinks true (token (Unit {0}) (kind.Keyword w) m i) d ts [] z.1) (no_next ts more) (λ u next st rest. keyword_opens names w ts a b c (next_kind_keyword w ts next))
 
-sign_within : {h : Type 0} {m : Option Spot} {i : Outline} (names : Names) (s : Punct) (d : ℕ) (ts : List Token) → HasNext ts → same_punct the_punct.RightBrace s ≡ false → is_label (stmt_punct s) ≡ false
+punct_within : {h : Type 0} {m : Option Spot} {i : Outline} (names : Names) (s : Punct) (d : ℕ) (ts : List Token) → HasNext ts → same_punct the_punct.RightBrace s ≡ false → is_label (stmt_punct s) ≡ false
     → Begun (part true h (token (Unit {0}) (kind.Punct s) m i) end) d ts [] → OpensStmt names ts
-sign_within {h} {m} {i} names s d ts more a b x = by (last_within ts x)
+punct_within {h} {m} {i} names s d ts more a b x = by (last_within ts x)
   where
     by : Within true h (token (Unit {0}) (kind.Punct s) m i) d ts → OpensStmt names ts
     by (inl e) = no_next ts more e
-    by (inr z) = token_elim ts (begun_sinks true (token (Unit {0}) (kind.Punct s) m i) d ts [] z.1) (no_next ts more) (λ u next st rest. punct_opens names s ts a b (kind_sign s ts next))
+    by (inr z) = token_elim ts (begun_sinks true (token (Unit {0}) (kind.Punct s) m i) d ts [] z.1) (no_next ts more) (λ u next st rest. punct_opens names s ts a b (next_kind_punct s ts next))
 
 expr_opens : (names : Names) (ts : List Token) → OpensExpr names ts → OpensStmt names ts
 unfolding is_label
@@ -76,29 +76,29 @@ plain_opens names n e d ts more x = by (last_within ts x)
 
 block_opens : (names : Names) (b : BlockTree Spot) (d : ℕ) (ts : List Token) → HasNext ts → Begun (outlines.block_of names b) d ts [] → OpensStmt names ts
 unfolding is_label
-block_opens names (block n is) d ts more x = sign_within names the_punct.LeftBrace d ts more refl refl x
+block_opens names (block n is) d ts more x = punct_within names the_punct.LeftBrace d ts more refl refl x
 
 begun_stmt : (names : Names) (s : StmtTree Spot) (d : ℕ) (ts : List Token) → HasNext ts → Begun (outlines.stmt names s) d ts [] → OpensStmt names ts
 unfolding is_label
 begun_stmt names (compound b) d ts more x = block_opens names b d ts more x
 begun_stmt names (plain n e) d ts more x = expr_opens names ts (plain_opens names n e d ts more x)
-begun_stmt names (empty n) d ts more x = sign_within names the_punct.Semicolon d ts more refl refl x
-begun_stmt names (if_then n c s) d ts more x = key_within names the_keyword.If d ts more refl refl refl x
-begun_stmt names (if_else n c s t) d ts more x = key_within names the_keyword.If d ts more refl refl refl x
-begun_stmt names (switch n e b) d ts more x = key_within names the_keyword.Switch d ts more refl refl refl x
-begun_stmt names (while_loop n c s) d ts more x = key_within names the_keyword.While d ts more refl refl refl x
-begun_stmt names (do_loop n s c) d ts more x = key_within names the_keyword.Do d ts more refl refl refl x
-begun_stmt names (for_loop n a test each s) d ts more x = key_within names the_keyword.For d ts more refl refl refl x
-begun_stmt names (break n) d ts more x = key_within names the_keyword.Break d ts more refl refl refl x
-begun_stmt names (continue n) d ts more x = key_within names the_keyword.Continue d ts more refl refl refl x
-begun_stmt names (return n e) d ts more x = key_within names the_keyword.Return d ts more refl refl refl x
+begun_stmt names (empty n) d ts more x = punct_within names the_punct.Semicolon d ts more refl refl x
+begun_stmt names (if_then n c s) d ts more x = keyword_within names the_keyword.If d ts more refl refl refl x
+begun_stmt names (if_else n c s t) d ts more x = keyword_within names the_keyword.If d ts more refl refl refl x
+begun_stmt names (switch n e b) d ts more x = keyword_within names the_keyword.Switch d ts more refl refl refl x
+begun_stmt names (while_loop n c s) d ts more x = keyword_within names the_keyword.While d ts more refl refl refl x
+begun_stmt names (do_loop n s c) d ts more x = keyword_within names the_keyword.Do d ts more refl refl refl x
+begun_stmt names (for_loop n a test each s) d ts more x = keyword_within names the_keyword.For d ts more refl refl refl x
+begun_stmt names (break n) d ts more x = keyword_within names the_keyword.Break d ts more refl refl refl x
+begun_stmt names (continue n) d ts more x = keyword_within names the_keyword.Continue d ts more refl refl refl x
+begun_stmt names (return n e) d ts more x = keyword_within names the_keyword.Return d ts more refl refl refl x
 
-key_item : {h : Type 0} {m : Option Spot} {i : Outline} (w : Keyword) (d : ℕ) (ts : List Token) → HasNext ts → same_keyword the_keyword.Else w ≡ false → Begun (part true h (token (Unit {0}) (kind.Keyword w) m i) end) d ts [] → OpensItem ts
-key_item {h} {m} {i} w d ts more b x = by (last_within ts x)
+keyword_item : {h : Type 0} {m : Option Spot} {i : Outline} (w : Keyword) (d : ℕ) (ts : List Token) → HasNext ts → same_keyword the_keyword.Else w ≡ false → Begun (part true h (token (Unit {0}) (kind.Keyword w) m i) end) d ts [] → OpensItem ts
+keyword_item {h} {m} {i} w d ts more b x = by (last_within ts x)
   where
     by : Within true h (token (Unit {0}) (kind.Keyword w) m i) d ts → OpensItem ts
     by (inl e) = no_next ts more e
-    by (inr z) = token_elim ts (begun_sinks true (token (Unit {0}) (kind.Keyword w) m i) d ts [] z.1) (no_next ts more) (λ u next st rest. let e = kind_key w ts next in record { no_brace = keyword_punct the_punct.RightBrace w ts e; no_else = key_other the_keyword.Else w ts b e })
+    by (inr z) = token_elim ts (begun_sinks true (token (Unit {0}) (kind.Keyword w) m i) d ts [] z.1) (no_next ts more) (λ u next st rest. let e = next_kind_keyword w ts next in record { no_brace = keyword_punct the_punct.RightBrace w ts e; no_else = keyword_other the_keyword.Else w ts b e })
 
 begun_item : (names : Names) (i : ItemTree Spot) (d : ℕ) (ts : List Token) → HasNext ts → Begun (outlines.item names i) d ts [] → OpensItem ts
 begun_item names (declares a) d ts more x = by (last_within ts x)
@@ -106,8 +106,8 @@ begun_item names (declares a) d ts more x = by (last_within ts x)
     by : Within true (outlines.declaration_spot a) (outlines.declaration_of names a) d ts → OpensItem ts
     by (inl e) = no_next ts more e
     by (inr z) = let starts = declaration_starts d names a ts more z.0 (begun_sinks true (outlines.declaration_of names a) d ts [] z.1) in record { no_brace = spec_not names the_punct.RightBrace ts starts; no_else = spec_no_else names ts starts }
-begun_item names (case_label n e) d ts more x = key_item the_keyword.Case d ts more refl x
-begun_item names (default_label n) d ts more x = key_item the_keyword.Default d ts more refl x
+begun_item names (case_label n e) d ts more x = keyword_item the_keyword.Case d ts more refl x
+begun_item names (default_label n) d ts more x = keyword_item the_keyword.Default d ts more refl x
 begun_item names (does s) d ts more x = let y = begun_stmt names s d ts more x in record { no_brace = y.no_brace; no_else = y.no_else }
 
 -- items that come next don't begin with an `else`
@@ -136,8 +136,8 @@ by_depth names zero ts (inr z) give = absurd z.1
 by_depth names (suc d) ts (inr z) give = give d z.0 z.1
 
 -- behind a keyword
-behind_key : {i : Outline} {n : Option Spot} (w : Keyword) (names : Names) (d : ℕ) (ts : List Token) → Begun (token (Unit {0}) (kind.Keyword w) n i) d ts [] → (Begun i d (skip ts) [] → Spent (stmt_by (stmt d) d (stmt_keyword w) names (spot ts) ts)) → Spent (stmt (suc d) names ts)
-behind_key w names d ts x give = token_elim ts x (stmt_nil names (suc d) ts) (λ u next st rest. stmt_as names d (stmt_keyword w) ts (key_stmt w ts (kind_key w ts next)) (give rest))
+behind_keyword : {i : Outline} {n : Option Spot} (w : Keyword) (names : Names) (d : ℕ) (ts : List Token) → Begun (token (Unit {0}) (kind.Keyword w) n i) d ts [] → (Begun i d (skip ts) [] → Spent (stmt_by (stmt d) d (stmt_keyword w) names (spot ts) ts)) → Spent (stmt (suc d) names ts)
+behind_keyword w names d ts x give = token_elim ts x (stmt_nil names (suc d) ts) (λ u next st rest. stmt_as names d (stmt_keyword w) ts (keyword_stmt w ts (next_kind_keyword w ts next)) (give rest))
 
 abbrev IsTaken : StmtTree Spot → Type 0
 IsTaken s = (names : Names) (d : ℕ) (ts : List Token) → Begun (outlines.stmt names s) d ts [] → Spent (stmt d names ts)
@@ -169,7 +169,7 @@ block_first names (block n is) d ts more x = by (last_within ts x)
   where
     by : Within true (Unit {0}) (outlines.punct_of n the_punct.LeftBrace ▸ outlines.within (outlines.items names is) ▸ outlines.punct the_punct.RightBrace ▸ end) d ts → next_is the_punct.LeftBrace ts ≡ true
     by (inl e) = no_next ts more e
-    by (inr z) = token_elim ts (begun_sinks true (outlines.punct_of n the_punct.LeftBrace ▸ outlines.within (outlines.items names is) ▸ outlines.punct the_punct.RightBrace ▸ end) d ts [] z.1) (no_next ts more) (λ u next st rest. kind_sign the_punct.LeftBrace ts next)
+    by (inr z) = token_elim ts (begun_sinks true (outlines.punct_of n the_punct.LeftBrace ▸ outlines.within (outlines.items names is) ▸ outlines.punct the_punct.RightBrace ▸ end) d ts [] z.1) (no_next ts more) (λ u next st rest. next_kind_punct the_punct.LeftBrace ts next)
 
 body_taken : (b : BlockTree Spot) → IsTaken (compound b) → (names : Names) (d : ℕ) (ts : List Token) → Within false (Unit {0}) (outlines.block_of names b) d ts → Spent (body (stmt d) d names ts)
 body_taken b taken names d ts (inl e) = body_nil names d ts e
@@ -178,31 +178,31 @@ body_taken b taken names d ts (inr z) =
     spent_is _ _ (branch_true (next_is the_punct.LeftBrace ts) (stmt d names >>= only_block) refuse ts (block_first names b d ts more z.1)) (spent_bind (stmt d names ts) only_block (taken names d ts z.1) block_spent))
 
 take_if : (n : Spot) (c : ExprTree Spot) (s : StmtTree Spot) → IsTaken s → IsTaken (if_then n c s)
-take_if n c s ts_s names d ts x = by_depth names d ts (last_within ts x) (λ e h y. behind_key the_keyword.If names e ts y (λ rest.
+take_if n c s ts_s names d ts x = by_depth names d ts (last_within ts x) (λ e h y. behind_keyword the_keyword.If names e ts y (λ rest.
     condition_elim (stmt e) names e c (outlines.within (outlines.stmt names s) ▸ end) (skip ts) (λ c. stmt e names >>= else_behind (stmt e) e names (spot ts) c) rest
     (λ z. spent_bind (stmt e names []) (else_behind (stmt e) e names (spot ts) z) (stmt_nil names e [] refl) (λ t. refl))
     (λ m last. spent_bind (stmt e names m) (else_behind (stmt e) e names (spot ts) c) (inside_taken s ts_s names e m (last_within m last)) (λ t. refl))))
 
 take_if_else : (n : Spot) (c : ExprTree Spot) (s t : StmtTree Spot) → IsTaken s → IsTaken t → IsTaken (if_else n c s t)
-take_if_else n c s t ts_s ts_t names d ts x = by_depth names d ts (last_within ts x) (λ e h y. behind_key the_keyword.If names e ts y (λ rest.
+take_if_else n c s t ts_s ts_t names d ts x = by_depth names d ts (last_within ts x) (λ e h y. behind_keyword the_keyword.If names e ts y (λ rest.
     condition_elim (stmt e) names e c (outlines.within (outlines.stmt names s) ▸ token (outlines.is_open s ≡ false) (kind.Keyword the_keyword.Else) None ▸ outlines.within (outlines.stmt (after_stmt s names) t) ▸ end) (skip ts) (λ c. stmt e names >>= else_behind (stmt e) e names (spot ts) c) rest
     (λ z. spent_bind (stmt e names []) (else_behind (stmt e) e names (spot ts) z) (stmt_nil names e [] refl) (λ u. refl))
     (λ m branches. part_elim m branches
     (λ w. spent_bind (stmt e names m) (else_behind (stmt e) e names (spot ts) c) (inside_taken s ts_s names e m w) (λ u. refl))
     (λ q more u first others. token_elim q others (no_next q more) (λ shut next st last.
-    let word = kind_key the_keyword.Else q next in
+    let word = next_kind_keyword the_keyword.Else q next in
     spent_is _ _ (bound (else_behind (stmt e) e names (spot ts) c) (stmt e names m) s q (stmt_again readers_complete names e s m q first (λ yes. absurd cc))
     ∙ branch_true (next_is_keyword the_keyword.Else q) (skipping (if_else (spot ts) c s <$> stmt e (after_stmt s names))) (pure (if_then (spot ts) c s)) q word)
     (spent_map (stmt e (after_stmt s names) (skip q)) _ (inside_taken t ts_t (after_stmt s names) e (skip q) (last_within (skip q) last))))))))
 
 take_switch : (n : Spot) (c : ExprTree Spot) (b : BlockTree Spot) → IsTaken (compound b) → IsTaken (switch n c b)
-take_switch n c b taken names d ts x = by_depth names d ts (last_within ts x) (λ e h y. behind_key the_keyword.Switch names e ts y (λ rest.
+take_switch n c b taken names d ts x = by_depth names d ts (last_within ts x) (λ e h y. behind_keyword the_keyword.Switch names e ts y (λ rest.
     condition_elim (stmt e) names e c (outlines.within (outlines.block_of names b) ▸ end) (skip ts) (λ z. switch (spot ts) z <$> body (stmt e) e names) rest
     (λ z. spent_map (body (stmt e) e names []) (λ w. switch (spot ts) z w) (body_nil names e [] refl))
     (λ m last. spent_map (body (stmt e) e names m) (λ w. switch (spot ts) c w) (body_taken b taken names e m (last_within m last)))))
 
 take_while : (n : Spot) (c : ExprTree Spot) (s : StmtTree Spot) → IsTaken s → IsTaken (while_loop n c s)
-take_while n c s taken names d ts x = by_depth names d ts (last_within ts x) (λ e h y. behind_key the_keyword.While names e ts y (λ rest.
+take_while n c s taken names d ts x = by_depth names d ts (last_within ts x) (λ e h y. behind_keyword the_keyword.While names e ts y (λ rest.
     condition_elim (stmt e) names e c (outlines.within (outlines.stmt names s) ▸ end) (skip ts) (λ z. while_loop (spot ts) z <$> stmt e names) rest
     (λ z. spent_map (stmt e names []) (λ w. while_loop (spot ts) z w) (stmt_nil names e [] refl))
     (λ m last. spent_map (stmt e names m) (λ w. while_loop (spot ts) c w) (inside_taken s taken names e m (last_within m last)))))
@@ -211,14 +211,14 @@ abbrev until_while : ℕ → Names → Spot → StmtTree Spot → Parser (StmtTr
 until_while e names n s = take_keyword the_keyword.While >> condition (stmt e) e (after_stmt s names) >>= (λ c. take the_punct.Semicolon >> pure (do_loop n s c))
 
 take_do : (n : Spot) (s : StmtTree Spot) (c : ExprTree Spot) → IsTaken s → IsTaken (do_loop n s c)
-take_do n s c taken names d ts x = by_depth names d ts (last_within ts x) (λ e h y. behind_key the_keyword.Do names e ts y (λ rest.
+take_do n s c taken names d ts x = by_depth names d ts (last_within ts x) (λ e h y. behind_keyword the_keyword.Do names e ts y (λ rest.
     part_elim (skip ts) rest
     (λ w. spent_bind (stmt e names (skip ts)) (until_while e names (spot ts)) (inside_taken s taken names e (skip ts) w) (λ t. refl))
     (λ m more u first others. token_elim m others (no_next m more) (λ v next st last.
-    let word = kind_key the_keyword.While m next in
+    let word = next_kind_keyword the_keyword.While m next in
     let later = after_stmt s names in
-    spent_is _ _ (bound (until_while e names (spot ts)) (stmt e names (skip ts)) s m (stmt_again readers_complete names e s (skip ts) m first (λ yes. key_other the_keyword.Else the_keyword.While m refl word))
-    ∙ ap (λ z. and_then (and_then z (λ w. condition (stmt e) e later)) (λ c. take the_punct.Semicolon >> pure (do_loop (spot ts) s c))) (takes_key the_keyword.While m word))
+    spent_is _ _ (bound (until_while e names (spot ts)) (stmt e names (skip ts)) s m (stmt_again readers_complete names e s (skip ts) m first (λ yes. keyword_other the_keyword.Else the_keyword.While m refl word))
+    ∙ ap (λ z. and_then (and_then z (λ w. condition (stmt e) e later)) (λ c. take the_punct.Semicolon >> pure (do_loop (spot ts) s c))) (takes_keyword the_keyword.While m word))
     (condition_elim (stmt e) later e c (outlines.punct the_punct.Semicolon ▸ end) (skip m) (λ c. take the_punct.Semicolon >> pure (do_loop (spot ts) s c)) last (λ z. refl)
     (λ q closing. until_spent the_punct.Semicolon (do_loop (spot ts) s c) e q closing))))))
 
@@ -238,7 +238,7 @@ each_taken : (e : ℕ) (names : Names) (n : Spot) (start : StartTree Spot) (test
 each_taken e names n start test each s taken ts x =
     let later = after_start start names in
     part_elim ts x (λ w. spent_bind (clause_until (stmt e) e later (next_is the_punct.RightParen) ts) (each_behind e names n start test) (clause_in (stmt e) later e each the_punct.RightParen ts refl w) (λ y. refl))
-    (λ m more u y rest. token_elim m rest (no_next m more) (λ v next st last. let c = kind_sign the_punct.RightParen m next in
+    (λ m more u y rest. token_elim m rest (no_next m more) (λ v next st last. let c = next_kind_punct the_punct.RightParen m next in
     spent_is _ _ (bound (each_behind e names n start test) (clause_until (stmt e) e later (next_is the_punct.RightParen) ts) each m (clause_read (stmt e) later e each the_punct.RightParen ts m (omega arith) refl y c)
     ∙ ap (λ z. and_then z (λ w. for_loop n start test each <$> stmt e later)) (takes the_punct.RightParen m c))
     (spent_map (stmt e later (skip m)) _ (inside_taken s taken later e (skip m) (last_within (skip m) last)))))
@@ -248,26 +248,26 @@ test_taken : (e : ℕ) (names : Names) (n : Spot) (start : StartTree Spot) (test
 test_taken e names n start test each s taken ts x =
     let later = after_start start names in
     part_elim ts x (λ w. spent_bind (clause_until (stmt e) e later (next_is the_punct.Semicolon) ts) (test_behind e names n start) (clause_in (stmt e) later e test the_punct.Semicolon ts refl w) (λ y. refl))
-    (λ m more u y rest. token_elim m rest (no_next m more) (λ v next st last. let c = kind_sign the_punct.Semicolon m next in
+    (λ m more u y rest. token_elim m rest (no_next m more) (λ v next st last. let c = next_kind_punct the_punct.Semicolon m next in
     spent_is _ _ (bound (test_behind e names n start) (clause_until (stmt e) e later (next_is the_punct.Semicolon) ts) test m (clause_read (stmt e) later e test the_punct.Semicolon ts m (omega arith) refl y c)
     ∙ ap (λ z. and_then (and_then z (λ w. clause_until (stmt e) e later (next_is the_punct.RightParen))) (each_behind e names n start test)) (takes the_punct.Semicolon m c))
     (each_taken e names n start test each s taken (skip m) last)))
 
 take_for : (n : Spot) (start : StartTree Spot) (test each : Option (ExprTree Spot)) (s : StmtTree Spot) → IsTaken s → IsTaken (for_loop n start test each s)
-take_for n start test each s taken names d ts x = by_depth names d ts (last_within ts x) (λ e h y. behind_key the_keyword.For names e ts y (λ rest.
+take_for n start test each s taken names d ts x = by_depth names d ts (last_within ts x) (λ e h y. behind_keyword the_keyword.For names e ts y (λ rest.
     token_elim (skip ts) rest
     (λ z. spent_bind (and_then (take the_punct.LeftParen (skip ts)) (λ w. start_clause (stmt e) e names)) (for_behind (stmt e) e names (spot ts)) (spent_is _ _ (ap (λ us. and_then (take the_punct.LeftParen us) (λ w. start_clause (stmt e) e names)) z) refl) (for_nil e names (spot ts)))
-    (λ u next st inside. let c = takes the_punct.LeftParen (skip ts) (kind_sign the_punct.LeftParen (skip ts) next) in
+    (λ u next st inside. let c = takes the_punct.LeftParen (skip ts) (next_kind_punct the_punct.LeftParen (skip ts) next) in
     spent_is _ _ (ap (λ z. and_then (and_then z (λ w. start_clause (stmt e) e names)) (for_behind (stmt e) e names (spot ts))) c)
     (part_elim (skip (skip ts)) inside
     (λ w. spent_bind (start_clause (stmt e) e names (skip (skip ts))) (for_behind (stmt e) e names (spot ts)) (start_in (stmt e) names e start (skip (skip ts)) w) (for_nil e names (spot ts)))
     (λ m more v q others. spent_is _ _ (bound (for_behind (stmt e) e names (spot ts)) (start_clause (stmt e) e names (skip (skip ts))) start m (start_read (stmt e) names e start (skip (skip ts)) m q)) (test_taken e names (spot ts) start test each s taken m others))))))
 
 take_return : (n : Spot) (c : Option (ExprTree Spot)) → IsTaken (return n c)
-take_return n c names d ts x = by_depth names d ts (last_within ts x) (λ e h y. behind_key the_keyword.Return names e ts y (λ rest.
+take_return n c names d ts x = by_depth names d ts (last_within ts x) (λ e h y. behind_keyword the_keyword.Return names e ts y (λ rest.
     part_elim (skip ts) rest
     (λ w. spent_bind (clause_until (stmt e) e names (next_is the_punct.Semicolon) (skip ts)) (λ z. take the_punct.Semicolon >> pure (return (spot ts) z)) (clause_in (stmt e) names e c the_punct.Semicolon (skip ts) refl w) (λ z. refl))
-    (λ m more u q last. token_elim m last (no_next m more) (λ v next st closing. let s = kind_sign the_punct.Semicolon m next in
+    (λ m more u q last. token_elim m last (no_next m more) (λ v next st closing. let s = next_kind_punct the_punct.Semicolon m next in
     spent_is _ _ (bound (λ z. take the_punct.Semicolon >> pure (return (spot ts) z)) (clause_until (stmt e) e names (next_is the_punct.Semicolon) (skip ts)) c m (clause_read (stmt e) names e c the_punct.Semicolon (skip ts) m (omega arith) refl q s)) (until_spent the_punct.Semicolon (return (spot ts) c) e m last)))))
 
 take_plain : (n : Spot) (e : ExprTree Spot) → IsTaken (plain n e)
@@ -275,13 +275,13 @@ take_plain n e names d ts x = by_next ts (stmt_nil names d ts) (λ more. by_dept
     stmt_as names f begins_other ts (expr_other names ts (plain_opens names n e d ts more x)) (ended_spent the_punct.Semicolon (plain (spot ts)) names f 1 e ts (omega arith) (omega arith) y)))
 
 take_empty : (n : Spot) → IsTaken (empty n)
-take_empty n names d ts x = by_depth names d ts (last_within ts x) (λ e h y. token_elim ts y (stmt_nil names (suc e) ts) (λ u next st rest. stmt_as names e begins_empty ts (sign_stmt the_punct.Semicolon ts (kind_sign the_punct.Semicolon ts next)) rest.cut))
+take_empty n names d ts x = by_depth names d ts (last_within ts x) (λ e h y. token_elim ts y (stmt_nil names (suc e) ts) (λ u next st rest. stmt_as names e begins_empty ts (punct_stmt the_punct.Semicolon ts (next_kind_punct the_punct.Semicolon ts next)) rest.cut))
 
 take_break : (n : Spot) → IsTaken (break n)
-take_break n names d ts x = by_depth names d ts (last_within ts x) (λ e h y. behind_key the_keyword.Break names e ts y (λ rest. until_spent the_punct.Semicolon (break (spot ts)) e (skip ts) rest))
+take_break n names d ts x = by_depth names d ts (last_within ts x) (λ e h y. behind_keyword the_keyword.Break names e ts y (λ rest. until_spent the_punct.Semicolon (break (spot ts)) e (skip ts) rest))
 
 take_continue : (n : Spot) → IsTaken (continue n)
-take_continue n names d ts x = by_depth names d ts (last_within ts x) (λ e h y. behind_key the_keyword.Continue names e ts y (λ rest. until_spent the_punct.Semicolon (continue (spot ts)) e (skip ts) rest))
+take_continue n names d ts x = by_depth names d ts (last_within ts x) (λ e h y. behind_keyword the_keyword.Continue names e ts y (λ rest. until_spent the_punct.Semicolon (continue (spot ts)) e (skip ts) rest))
 
 -- ---- Items
 
@@ -308,15 +308,15 @@ take_declares a names d ts x = item_by_depth names d ts (last_within ts x) (λ e
 
 label_as : (names : Names) (d : ℕ) (w : Keyword) (ts : List Token) → is_spec (spec_keyword w) ≡ false → next_is_keyword w ts ≡ true → Spent (label_by (stmt d) d (stmt_keyword w) names (spot ts) ts) → Spent (item (stmt d) d names ts)
 label_as names d w ts a e s =
-    spent_is _ _ (branch_false (starts_spec names ts) (counts d names) (labels d names) ts (key_spec names w ts a e)) (subst (λ c. Spent (label_by (stmt d) d c names (spot ts) ts)) (sym (key_stmt w ts e)) s)
+    spent_is _ _ (branch_false (starts_spec names ts) (counts d names) (labels d names) ts (keyword_spec names w ts a e)) (subst (λ c. Spent (label_by (stmt d) d c names (spot ts) ts)) (sym (keyword_stmt w ts e)) s)
 
 take_case : (n : Spot) (c : ExprTree Spot) → ItemTaken (case_label n c)
 take_case n c names d ts x = item_by_depth names d ts (last_within ts x) (λ e h y. token_elim ts y (item_nil names (suc e) ts) (λ u next st rest.
-    label_as names (suc e) the_keyword.Case ts refl (kind_key the_keyword.Case ts next) (ended_spent the_punct.Colon (case_label (spot ts)) names e 3 c (skip ts) (omega arith) (omega arith) rest)))
+    label_as names (suc e) the_keyword.Case ts refl (next_kind_keyword the_keyword.Case ts next) (ended_spent the_punct.Colon (case_label (spot ts)) names e 3 c (skip ts) (omega arith) (omega arith) rest)))
 
 take_default : (n : Spot) → ItemTaken (default_label n)
 take_default n names d ts x = item_by_depth names d ts (last_within ts x) (λ e h y. token_elim ts y (item_nil names (suc e) ts) (λ u next st rest.
-    label_as names (suc e) the_keyword.Default ts refl (kind_key the_keyword.Default ts next) (until_spent the_punct.Colon (default_label (spot ts)) e (skip ts) rest)))
+    label_as names (suc e) the_keyword.Default ts refl (next_kind_keyword the_keyword.Default ts next) (until_spent the_punct.Colon (default_label (spot ts)) e (skip ts) rest)))
 
 take_does : (s : StmtTree Spot) → IsTaken s → ItemTaken (does s)
 take_does s taken names d ts x = by_next ts (item_nil names d ts) (λ more. let y = begun_stmt names s d ts more x in
@@ -352,13 +352,13 @@ items_taken (more_items i is) all names d (suc turns) ts h (inr z) =
 
 take_block : (n : Spot) (is : ItemTrees Spot) → AllTaken is → IsTaken (compound (block n is))
 take_block n is all names d ts x = by_depth names d ts (last_within ts x) (λ e h y. token_elim ts y (stmt_nil names (suc e) ts) (λ u next st rest.
-    stmt_as names e begins_block ts (sign_stmt the_punct.LeftBrace ts (kind_sign the_punct.LeftBrace ts next))
+    stmt_as names e begins_block ts (punct_stmt the_punct.LeftBrace ts (next_kind_punct the_punct.LeftBrace ts next))
     (spent_map (items (stmt e) e names (skip ts)) (λ is. compound (block (spot ts) (gathered_items is)))
     (part_elim (skip ts) rest (items_taken is all names e (suc (length (skip ts))) (skip ts) (omega arith))
     (λ m more v q last. closed e (skip ts) m q more last)))))
   where
     closed : (e : ℕ) (us m : List Token) → Reads (outlines.items names is) e us m → HasNext m → Begun (outlines.punct the_punct.RightBrace end) e m [] → Spent (items (stmt e) e names us)
-    closed e us m q more last = token_elim m last (no_next m more) (λ v next st rest. spent_is _ _ (all_items e us m q (kind_sign the_punct.RightBrace m next)) rest.cut)
+    closed e us m q more last = token_elim m last (no_next m more) (λ v next st rest. spent_is _ _ (all_items e us m q (next_kind_punct the_punct.RightBrace m next)) rest.cut)
       where
         all_items : (e : ℕ) (us m : List Token) → Reads (outlines.items names is) e us m → next_is the_punct.RightBrace m ≡ true → items (stmt e) e names us ≡ Ok (listed is, skip m)
         all_items e us m q c = items_again is (are_items readers_complete is) names e (suc (length us)) us m q c (omega arith)

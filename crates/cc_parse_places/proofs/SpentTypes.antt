@@ -15,18 +15,19 @@ use Rattle.cc_grammar.specs.Outlines as outlines
 use Rattle.cc_grammar.specs.Classes.{next_is, is_punct, skip, spot, starts_spec, is_spec, spec_kind}
 use Rattle.cc_grammar.specs.Outcomes.{pure, ◌<$>◌}
 use Rattle.cc_grammar.specs.Reading.{Inner, Mode, without_name, with_or_without, typed, parameters, arguments, separated, skipping}
+use Rattle.std.proofs.lemmas.Bool.{or_left, or_right}
 use Rattle.cc_parse_laws.proofs.Steps.{branch_false}
-use Rattle.cc_parse_laws.proofs.Peeks.{sign_ends}
+use Rattle.cc_parse_laws.proofs.Peeks.{punct_ends}
 use Rattle.cc_parse_laws.proofs.NextTokens.{NextKind}
 use Rattle.cc_parse_laws.proofs.Inner.{Ends, EndsSpecs, CompleteInner, Suits}
-use Rattle.cc_parse_laws.proofs.Firsts.{not_named, word_starts, name_starts, first_spec, first_specs, first_operand, opens_not, spec_not, or_left, or_right}
+use Rattle.cc_parse_laws.proofs.Firsts.{not_named, word_starts, name_starts, first_spec, first_specs, first_operand, opens_not, spec_not}
 use Rattle.cc_parse_laws.proofs.FirstDeclarators.{OpensDeclarator, declarator_or}
 use Rattle.cc_parse_laws.proofs.Climbs.{bound}
 use Rattle.cc_parse_laws.proofs.Listed as listed
 use Rattle.cc_parse_laws.proofs.CompleteTypes.{Parted, closed, parted_comma, parameter_again, parameters_again, first_parameter, argument_again, arguments_again}
 use Rattle.cc_parse_places.proofs.Begun.{Begun, at}
 use Rattle.cc_parse_places.proofs.BegunTypes.{missing, some_spec}
-use Rattle.cc_parse_places.proofs.Spent.{Spent, spent_bind, spent_map, spent_is, HasNext, no_next, Within, token_elim, part_elim, last_within, begun_sinks, at_kind, kind_sign}
+use Rattle.cc_parse_places.proofs.Spent.{Spent, spent_bind, spent_map, spent_is, HasNext, no_next, Within, token_elim, part_elim, last_within, begun_sinks, at_kind, next_kind_punct}
 use Rattle.cc_parse_places.proofs.SpentFirsts.{begun_opens}
 use Rattle.cc_parse_places.proofs.SpentLists.{OthersCut, SomeCut, separated_spent}
 use Rattle.cc_parse_places.proofs.SpentExpressions.{SpentInner}
@@ -165,7 +166,7 @@ module _ (names : Names) (inner : Inner) (d : ℕ) (good : CompleteInner names i
   other_arguments no_exprs m (inr z) = let x = z.1 in x.cut
   other_arguments (more_exprs e es) m (inl z) = inl z
   other_arguments (more_exprs e es) m (inr z) =
-      token_elim m z.1 (λ n. inl n) (λ u next st right. inr (kind_sign the_punct.Comma m next, part_elim (skip m) right (λ w. inl w) (λ c more h y rest. inr (c, more, (h, y), other_arguments es c (last_within c rest)))))
+      token_elim m z.1 (λ n. inl n) (λ u next st right. inr (next_kind_punct the_punct.Comma m next, part_elim (skip m) right (λ w. inl w) (λ c more h y rest. inr (c, more, (h, y), other_arguments es c (last_within c rest)))))
 
   some_arguments : (e : ExprTree Spot) (es : ExprTrees Spot) (ts : List Token) → Begun (outlines.arguments names (more_exprs e es)) d ts [] → SomeCut (listed.ArgumentSpan names d) ArgumentCut e (listed.exprs es) ts
   some_arguments e es ts x = part_elim ts x (λ w. inl w) (λ m more h y rest. inr (m, more, (h, y), other_arguments es m (last_within m rest)))
@@ -185,13 +186,13 @@ module _ (names : Names) (inner : Inner) (d : ℕ) (good : CompleteInner names i
       by_next ts (arguments_nil ts) (λ more. let s = some_arguments e es ts z.1 in
       spent_is _ _ (branch_false (next_is the_punct.RightParen ts) (skipping (pure [])) (closed (separated (inner.expr 2))) ts (argument_opens e (listed.exprs es) ts more s))
       (spent_bind (separated (inner.expr 2) ts) _
-      (separated_spent (inner.expr 2) (listed.ArgumentSpan names d) ArgumentCut (Ends 2) (λ us. sign_ends 2 the_punct.Comma us (omega arith)) (argument_again names inner d good) (λ x us m y. omega (arith, listed.argument_shorter names d x us m y)) (λ x us w. spent.expr 2 x us (omega arith) w) e (listed.exprs es) ts s)
+      (separated_spent (inner.expr 2) (listed.ArgumentSpan names d) ArgumentCut (Ends 2) (λ us. punct_ends 2 the_punct.Comma us (omega arith)) (argument_again names inner d good) (λ x us m y. omega (arith, listed.argument_shorter names d x us m y)) (λ x us w. spent.expr 2 x us (omega arith) w) e (listed.exprs es) ts s)
       (λ y. refl)))
 
   pub arguments_spent : (es : ExprTrees Spot) (ts : List Token) → Begun (outlines.within (outlines.arguments names es) ▸ outlines.punct the_punct.RightParen ▸ end) d ts [] → Spent (arguments names inner (suc d) ts)
   arguments_spent es ts x =
       part_elim ts x (arguments_in es ts)
-      (λ m more u y rest. token_elim m rest (no_next m more) (λ v next st last. spent_is _ _ (arguments_again names inner d good es ts m y (kind_sign the_punct.RightParen m next)) last.cut))
+      (λ m more u y rest. token_elim m rest (no_next m more) (λ v next st last. spent_is _ _ (arguments_again names inner d good es ts m y (next_kind_punct the_punct.RightParen m next)) last.cut))
 
   -- ---- Parameters
 
@@ -203,7 +204,7 @@ module _ (names : Names) (inner : Inner) (d : ℕ) (good : CompleteInner names i
   other_parameters no_types m (inr z) = let x = z.1 in x.cut
   other_parameters (more_types u us) m (inl z) = inl z
   other_parameters (more_types u us) m (inr z) =
-      token_elim m z.1 (λ n. inl n) (λ v next st right. inr (kind_sign the_punct.Comma m next, part_elim (skip m) right (λ w. inl w) (λ c more h y rest. inr (c, more, y, other_parameters us c (last_within c rest)))))
+      token_elim m z.1 (λ n. inl n) (λ v next st right. inr (next_kind_punct the_punct.Comma m next, part_elim (skip m) right (λ w. inl w) (λ c more h y rest. inr (c, more, y, other_parameters us c (last_within c rest)))))
 
   some_parameters : (u : TypeTree Spot) (us : TypeTrees Spot) (ts : List Token) → Begun (outlines.parameters names (more_types u us)) d ts [] → SomeCut (listed.ParameterSpan names d) ParameterCut u (listed.types us) ts
   some_parameters u us ts x = part_elim ts x (λ w. inl w) (λ m more h y rest. inr (m, more, y, other_parameters us m (last_within m rest)))
@@ -229,12 +230,12 @@ module _ (names : Names) (inner : Inner) (d : ℕ) (good : CompleteInner names i
   pub parameters_spent : (us : TypeTrees Spot) (ts : List Token) → Begun (outlines.within (outlines.parameters names us) ▸ outlines.punct the_punct.RightParen ▸ end) d ts [] → Spent (parameters names inner (suc d) ts)
   parameters_spent us ts x =
       part_elim ts x (parameters_in us ts)
-      (λ m more u y rest. token_elim m rest (no_next m more) (λ v next st last. spent_is _ _ (parameters_again names inner d good us ts m y (kind_sign the_punct.RightParen m next)) last.cut))
+      (λ m more u y rest. token_elim m rest (no_next m more) (λ v next st last. spent_is _ _ (parameters_again names inner d good us ts m y (next_kind_punct the_punct.RightParen m next)) last.cut))
 
   -- what stands behind the parenthesis of parameters
   pub parameters_ahead : (us : TypeTrees Spot) (ts : List Token) → HasNext ts → Begun (outlines.within (outlines.parameters names us) ▸ outlines.punct the_punct.RightParen ▸ end) d ts [] → (next_is the_punct.RightParen ts || starts_spec names ts) ≡ true
   parameters_ahead no_types ts more x =
-      part_elim ts x (λ w. by w) (λ m next u y rest. token_elim m rest (no_next m next) (λ v kind_is st last. or_left (next_is the_punct.RightParen ts) (starts_spec names ts) (ap (next_is the_punct.RightParen) y ∙ kind_sign the_punct.RightParen m kind_is)))
+      part_elim ts x (λ w. by w) (λ m next u y rest. token_elim m rest (no_next m next) (λ v kind_is st last. or_left (next_is the_punct.RightParen ts) (starts_spec names ts) (ap (next_is the_punct.RightParen) y ∙ next_kind_punct the_punct.RightParen m kind_is)))
     where
       by : Within false (Unit {0}) (outlines.parameters names no_types) d ts → (next_is the_punct.RightParen ts || starts_spec names ts) ≡ true
       by (inl e) = no_next ts more e

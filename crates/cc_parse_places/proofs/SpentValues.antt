@@ -17,7 +17,7 @@ use Rattle.cc_grammar.specs.Reading.{readers, value, given, enclosed, enclosed_b
 use Rattle.cc_parse_laws.proofs.Spans.{Reads}
 use Rattle.cc_parse_laws.proofs.Steps.{branch_true, branch_false, reads_length, reads_next}
 use Rattle.cc_parse_laws.proofs.Lists.{takes}
-use Rattle.cc_parse_laws.proofs.Peeks.{sign_ends, sign_other}
+use Rattle.cc_parse_laws.proofs.Peeks.{punct_ends, punct_other}
 use Rattle.cc_parse_laws.proofs.NextTokens.{NextKind, kind_reads}
 use Rattle.cc_parse_laws.proofs.Inner.{Ends}
 use Rattle.cc_parse_laws.proofs.Firsts.{inside_sinks, first_operand, opens_not}
@@ -25,7 +25,7 @@ use Rattle.cc_parse_laws.proofs.Climbs.{bound}
 use Rattle.cc_parse_laws.proofs.CompleteReaders.{readers_complete}
 use Rattle.cc_parse_laws.proofs.CompleteValues.{value_again}
 use Rattle.cc_parse_places.proofs.Begun.{Begun}
-use Rattle.cc_parse_places.proofs.Spent.{Spent, spent_map, spent_is, HasNext, no_next, Within, token_elim, part_elim, last_within, begun_sinks, at_kind, kind_sign}
+use Rattle.cc_parse_places.proofs.Spent.{Spent, spent_map, spent_is, HasNext, no_next, Within, token_elim, part_elim, last_within, begun_sinks, at_kind, next_kind_punct}
 use Rattle.cc_parse_places.proofs.SpentFirsts.{begun_opens}
 use Rattle.cc_parse_places.proofs.SpentLists.{OthersCut, SomeCut, enclosed_by_spent}
 use Rattle.cc_parse_places.proofs.SpentTypes.{by_next}
@@ -46,7 +46,7 @@ other_values names d no_values m (inl e) = e
 other_values names d no_values m (inr z) = let x = z.1 in x.cut
 other_values names d (more_values v vs) m (inl z) = inl z
 other_values names d (more_values v vs) m (inr z) =
-    token_elim m z.1 (λ n. inl n) (λ u next st right. inr (kind_sign the_punct.Comma m next, part_elim (skip m) right (λ w. inl w) (λ q more h y rest. inr (q, more, y, other_values names d vs q (last_within q rest)))))
+    token_elim m z.1 (λ n. inl n) (λ u next st right. inr (next_kind_punct the_punct.Comma m next, part_elim (skip m) right (λ w. inl w) (λ q more h y rest. inr (q, more, y, other_values names d vs q (last_within q rest)))))
 
 some_values : (names : Names) (d : ℕ) (v : ValueTree Spot) (vs : ValueTrees Spot) (ts : List Token) → Begun (outlines.values names (more_values v vs)) d ts [] → SomeCut (ValueSpan names d) (ValueCut names d) v (listed vs) ts
 some_values names d v vs ts x = part_elim ts x (λ w. inl w) (λ m more h y rest. inr (m, more, y, other_values names d vs m (last_within m rest)))
@@ -66,7 +66,7 @@ values_comma names d (more_values v vs) [] q y more c e = absurd y
 values_comma names d (more_values v vs) (t ∷ m) q y more c e =
     let z = y.3 in
     let rest : Reads (outlines.further_values names vs) d z.0 q = subst (Reads (outlines.further_values names vs) d z.0) z.3.3 z.3.2 in
-    inr (kind_sign the_punct.Comma (t ∷ m) y.1, inr (z.0, longer names d vs z.0 q rest more, z.2, values_comma names d vs z.0 q rest more c e))
+    inr (next_kind_punct the_punct.Comma (t ∷ m) y.1, inr (z.0, longer names d vs z.0 q rest more, z.2, values_comma names d vs z.0 q rest more c e))
 
 -- ---- No initialiser begins with a closing brace
 
@@ -74,7 +74,7 @@ read_not : (names : Names) (d : ℕ) (v : ValueTree Spot) (ts r : List Token) �
 read_not names d (single e) ts r x = opens_not names the_punct.RightBrace ts refl (first_operand names e d ts x.0 x.2)
 read_not names d (braces n vs b) ts r x =
     let i = outlines.punct_of n the_punct.LeftBrace ▸ outlines.within (outlines.values names vs) ▸ outlines.within (outlines.trailing_comma b) ▸ outlines.punct the_punct.RightBrace ▸ end in
-    sign_other the_punct.RightBrace the_punct.LeftBrace ts refl (reads_next (Unit {0}) the_punct.LeftBrace (Some n) (outlines.within (outlines.values names vs) ▸ outlines.within (outlines.trailing_comma b) ▸ outlines.punct the_punct.RightBrace ▸ end) d ts x.0 (inside_sinks true i d ts x.0 x.2))
+    punct_other the_punct.RightBrace the_punct.LeftBrace ts refl (reads_next (Unit {0}) the_punct.LeftBrace (Some n) (outlines.within (outlines.values names vs) ▸ outlines.within (outlines.trailing_comma b) ▸ outlines.punct the_punct.RightBrace ▸ end) d ts x.0 (inside_sinks true i d ts x.0 x.2))
 
 cut_not : (names : Names) (d : ℕ) (v : ValueTree Spot) (ts : List Token) → ValueCut names d v ts → next_is the_punct.RightBrace ts ≡ false
 cut_not names d v ts (inl e) = ap (next_is the_punct.RightBrace) e
@@ -118,10 +118,10 @@ single_spent names d e ts (inr y) =
 list_taken : (names : Names) (d : ℕ) → ((v : ValueTree Spot) (ts : List Token) → ValueCut names d v ts → Spent (value names d ts)) → (v : ValueTree Spot) (vs : List (ValueTree Spot)) (ts : List Token) → NextKind (kind.Punct the_punct.LeftBrace) ts
     → SomeCut (ValueSpan names d) (ValueCut names d) v vs (skip ts) → Spent (value names (suc d) ts)
 list_taken names d taken v vs ts next s =
-    spent_is _ _ (branch_true (next_is the_punct.LeftBrace ts) (in_braces names d) (alone names d) ts (kind_sign the_punct.LeftBrace ts next))
+    spent_is _ _ (branch_true (next_is the_punct.LeftBrace ts) (in_braces names d) (alone names d) ts (next_kind_punct the_punct.LeftBrace ts next))
     (spent_map (enclosed (value names d) ts) (λ (vs : List (ValueTree Spot) × Bool). braces (spot ts) (gathered_values vs.0) vs.1)
-    (spent_is _ _ (bound (λ u us. enclosed_by (value names d) (length us) us) (take the_punct.LeftBrace ts) tt (skip ts) (takes the_punct.LeftBrace ts (kind_sign the_punct.LeftBrace ts next)))
-    (enclosed_by_spent (value names d) (ValueSpan names d) (ValueCut names d) (Ends 2) (λ us e. sign_ends 2 the_punct.Comma us (omega arith) e) (λ x us m y f. value_again readers_complete names d x us m y f) (λ x us m y. omega (arith, reads_length (outlines.value names x) d us m y)) taken
+    (spent_is _ _ (bound (λ u us. enclosed_by (value names d) (length us) us) (take the_punct.LeftBrace ts) tt (skip ts) (takes the_punct.LeftBrace ts (next_kind_punct the_punct.LeftBrace ts next)))
+    (enclosed_by_spent (value names d) (ValueSpan names d) (ValueCut names d) (Ends 2) (λ us e. punct_ends 2 the_punct.Comma us (omega arith) e) (λ x us m y f. value_again readers_complete names d x us m y f) (λ x us m y. omega (arith, reads_length (outlines.value names x) d us m y)) taken
     (cut_not names d) (λ x us m y. read_not names d x us m y) (length (skip ts)) vs v (skip ts) (omega arith) s)))
 
 trailing_taken : (names : Names) (d : ℕ) → ((v : ValueTree Spot) (ts : List Token) → ValueCut names d v ts → Spent (value names d ts)) → (v : ValueTree Spot) (vs : ValueTrees Spot) (trailing : Bool) (ts m q : List Token) → NextKind (kind.Punct the_punct.LeftBrace) ts
@@ -129,7 +129,7 @@ trailing_taken : (names : Names) (d : ℕ) → ((v : ValueTree Spot) (ts : List 
 trailing_taken names d taken v vs trailing ts m q next more y more2 z (inl e) = no_next q more2 e
 trailing_taken names d taken v vs false ts m q next more y more2 z (inr w) = let x = w.1 in no_next q more2 x.cut
 trailing_taken names d taken v vs true ts m q next more y more2 z (inr w) =
-    token_elim q w.1 (no_next q more2) (λ u comma st last. list_taken names d taken v (listed vs ++ filler ∷ []) ts next (inr (m, more, y, values_comma names d vs m q z more2 (kind_sign the_punct.Comma q comma) last.cut)))
+    token_elim q w.1 (no_next q more2) (λ u comma st last. list_taken names d taken v (listed vs ++ filler ∷ []) ts next (inr (m, more, y, values_comma names d vs m q z more2 (next_kind_punct the_punct.Comma q comma) last.cut)))
 
 -- all of the list, up to a comma, or up to where it is closed
 list_there : (names : Names) (d : ℕ) → ((v : ValueTree Spot) (ts : List Token) → ValueCut names d v ts → Spent (value names d ts)) → (n : Spot) (v : ValueTree Spot) (vs : ValueTrees Spot) (trailing : Bool) (ts q : List Token) → NextKind (kind.Punct the_punct.LeftBrace) ts → spot ts ≡ n
@@ -170,4 +170,4 @@ given_spent names d v ts (inl e) = spent_is _ _ (ap (given names d) e) refl
 given_spent names d None ts (inr z) = let x = z.1 in spent_is _ _ (ap (given names d) x.cut) refl
 given_spent names d (Some v) ts (inr z) =
     token_elim ts z.1 (λ e. spent_is _ _ (ap (given names d) e) refl) (λ u next st rest.
-    spent_is _ _ (branch_true (next_is the_punct.Equal ts) (skipping (Some <$> value names d)) (pure None) ts (kind_sign the_punct.Equal ts next)) (spent_map (value names d (skip ts)) Some (value_spent names d v (skip ts) (last_within (skip ts) rest))))
+    spent_is _ _ (branch_true (next_is the_punct.Equal ts) (skipping (Some <$> value names d)) (pure None) ts (next_kind_punct the_punct.Equal ts next)) (spent_map (value names d (skip ts)) Some (value_spent names d v (skip ts) (last_within (skip ts) rest))))
