@@ -11,7 +11,7 @@ use Rattle.cc_tree.specs.declared.operator.SpecWord.{SpecWord}
 use Rattle.cc_tree.specs.declared.operator.SpecWord.TheVariants as the_spec_word
 use Rattle.cc_tree.specs.Trees.{Name, SpecTree, word, named, struct, enum, SpecTrees, no_specs, more_specs, MemberTree, MemberTrees, no_members, more_members, ConstantTree, ConstantTrees, no_constants, more_constants}
 use Rattle.cc_tree.specs.Views.{gathered_specs, gathered_members, gathered_constants}
-use Rattle.cc_grammar.specs.Levels.{spec_keyword}
+use Rattle.cc_grammar.specs.Levels.{word_keyword}
 use Rattle.cc_grammar.specs.Names.{Names, is_type}
 use Rattle.cc_grammar.specs.Outline.{Outline, end, token}
 use Rattle.cc_grammar.specs.Outlines as outlines
@@ -28,7 +28,7 @@ use Rattle.cc_parse_laws.proofs.Climbs.{bound, mapped, done, rest_is}
 use Rattle.cc_parse_laws.proofs.Listed as listed
 use Rattle.cc_parse_laws.proofs.Inner.{EndsSpecs}
 
-pub word_begins : (v : SpecWord) → spec_keyword (spec_keyword v) ≡ spec_word v
+pub word_begins : (v : SpecWord) → spec_keyword (word_keyword v) ≡ spec_word v
 word_begins the_spec_word.Typedef = refl
 word_begins the_spec_word.Extern = refl
 word_begins the_spec_word.Static = refl
@@ -141,8 +141,8 @@ module _ (names : Names) (inner : Inner) (d : ℕ) where
 
   pub spec_again : MembersAgain → ConstantsAgain → (q : SpecTree Spot) → Again one_spec (listed.SpecSpan names d) NoBrace q
   spec_again ma ca (word n v) ts r y e =
-      let t = next_token (Unit {0}) (kind.Keyword (spec_keyword v)) (Some n) end d ts r y in
-      begins (kind.Keyword (spec_keyword v)) n (Unit {0}) end ts r r (spec_word v) (word n v) y (word_begins v) (rest_is (word n v) (skip ts) r t.after)
+      let t = next_token (Unit {0}) (kind.Keyword (word_keyword v)) (Some n) end d ts r y in
+      begins (kind.Keyword (word_keyword v)) n (Unit {0}) end ts r r (spec_word v) (word n v) y (word_begins v) (rest_is (word n v) (skip ts) r t.after)
   spec_again ma ca (named n x) ts r y e =
       let t = next_token (is_type names x ≡ true) (kind.Identifier x) (Some n) end d ts r y in
       begins (kind.Identifier x) n (is_type names x ≡ true) end ts r r (spec_named x) (named n x) y (name_begins names x t.holds) (rest_is (named n x) (skip ts) r t.after)

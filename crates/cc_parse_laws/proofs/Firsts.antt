@@ -22,7 +22,7 @@ use Rattle.cc_tree.specs.declared.operator.Side.TheVariants as side
 use Rattle.cc_tree.specs.declared.operator.SpecWord.{SpecWord}
 use Rattle.cc_tree.specs.declared.operator.SpecWord.TheVariants as the_spec_word
 use Rattle.cc_tree.specs.Trees.{Name, ExprTree, name, integer, character, string, paren, unary, binary, assign, step, choice, comma, call, member, arrow, index, cast, size_expr, size_type, SpecTree, word, named, struct, enum, SpecTrees, no_specs, more_specs}
-use Rattle.cc_grammar.specs.Levels.{level, binary_level, int_level, unary_punct, step_punct, spec_keyword}
+use Rattle.cc_grammar.specs.Levels.{level, binary_level, int_level, unary_punct, step_punct, word_keyword}
 use Rattle.cc_grammar.specs.Names.{Names, is_type}
 use Rattle.cc_grammar.specs.Outline.{Outline, end, token}
 use Rattle.cc_grammar.specs.Outlines as outlines
@@ -186,7 +186,7 @@ no_type_ahead names (size_type n t) d ts r h y = other_ahead names (Unit {0}) (k
 
 -- ---- Specifiers
 
-pub word_starts : (v : SpecWord) → is_spec (spec_keyword (spec_keyword v)) ≡ true
+pub word_starts : (v : SpecWord) → is_spec (spec_keyword (word_keyword v)) ≡ true
 word_starts the_spec_word.Typedef = refl
 word_starts the_spec_word.Extern = refl
 word_starts the_spec_word.Static = refl
@@ -208,7 +208,7 @@ spec_at : (names : Names) (h : Type 0) (k : TokenKind) (n : Option Spot) (i : Ou
 spec_at names h k n i d ts r a x = at_token (starts_spec names) (λ c. is_spec (spec_kind names c)) (λ t us. refl) h k n i d ts r x ∙ a
 
 pub first_spec : (names : Names) (q : SpecTree Spot) (d : ℕ) (ts r : List Token) → Reads (outlines.spec names q) d ts r → starts_spec names ts ≡ true
-first_spec names (word n v) d ts r y = spec_at names (Unit {0}) (kind.Keyword (spec_keyword v)) (Some n) end d ts r (word_starts v) y
+first_spec names (word n v) d ts r y = spec_at names (Unit {0}) (kind.Keyword (word_keyword v)) (Some n) end d ts r (word_starts v) y
 first_spec names (named n x) d ts r y =
     let t = next_token (is_type names x ≡ true) (kind.Identifier x) (Some n) end d ts r y in
     spec_at names (is_type names x ≡ true) (kind.Identifier x) (Some n) end d ts r (name_starts names x t.holds) y
@@ -216,7 +216,7 @@ first_spec names (struct n tag ms) d ts r y = spec_at names (Unit {0}) (kind.Key
 first_spec names (enum n tag cs trailing) d ts r y = spec_at names (Unit {0}) (kind.Keyword the_keyword.Enum) (Some n) (after (inside (outlines.spec names (enum n tag cs trailing)))) d ts y.0 refl y.2
 
 pub spec_stands : (names : Names) (q : SpecTree Spot) (d : ℕ) (ts r : List Token) → Reads (outlines.spec names q) d ts r → spot ts ≡ outlines.spec_spot q
-spec_stands names (word n v) d ts r y = let t = next_token (Unit {0}) (kind.Keyword (spec_keyword v)) (Some n) end d ts r y in t.at
+spec_stands names (word n v) d ts r y = let t = next_token (Unit {0}) (kind.Keyword (word_keyword v)) (Some n) end d ts r y in t.at
 spec_stands names (named n x) d ts r y = let t = next_token (is_type names x ≡ true) (kind.Identifier x) (Some n) end d ts r y in t.at
 spec_stands names (struct n tag ms) d ts r y = let t = next_token (Unit {0}) (kind.Keyword the_keyword.Struct) (Some n) (after (inside (outlines.spec names (struct n tag ms)))) d ts y.0 y.2 in t.at
 spec_stands names (enum n tag cs trailing) d ts r y = let t = next_token (Unit {0}) (kind.Keyword the_keyword.Enum) (Some n) (after (inside (outlines.spec names (enum n tag cs trailing)))) d ts y.0 y.2 in t.at

@@ -10,7 +10,7 @@ use Rattle.cc_lex.specs.declared.punct.Punct.{Punct}
 use Rattle.cc_lex.specs.declared.punct.Punct.TheVariants as the_punct
 use Rattle.cc_tree.specs.Trees.{Name}
 use Rattle.cc_grammar.specs.Names.{Names, is_type}
-use Rattle.cc_grammar.specs.Levels.{unary_punct, step_punct, binary_punct, assign_punct, spec_keyword}
+use Rattle.cc_grammar.specs.Levels.{unary_punct, step_punct, binary_punct, assign_punct, word_keyword}
 use Rattle.cc_grammar.specs.Outline.{Outline, end, token, FitsSpot}
 use Rattle.cc_grammar.specs.Outlines.{identifier, punct}
 use Rattle.cc_grammar.specs.Classes.{skip, spot, ident, next_ident, literal, next_literal, Start, begins_name, begins_integer, begins_character, begins_string, begins_paren, begins_unary, begins_step, begins_sizeof, begins_nothing, start_punct, start_keyword, start_kind, start, Tail, goes_binary, goes_assign, goes_question, goes_comma, goes_call, goes_index, goes_dot, goes_arrow, goes_step, ends_here, tail_punct, tail_kind, tail, SpecStart, spec_word, spec_struct, spec_enum, spec_named, no_spec, spec_keyword, spec_kind, spec_start}
@@ -147,7 +147,7 @@ tail_next w (t ∷ ts) e = is_next (tail_token (tail_kind t.kind)) w t ts (tail_
 -- ---- How a specifier begins
 
 abbrev pub spec_token : SpecStart → Option TokenKind
-spec_token (spec_word w) = Some (kind.Keyword (spec_keyword w))
+spec_token (spec_word w) = Some (kind.Keyword (word_keyword w))
 spec_token spec_struct = Some (kind.Keyword the_keyword.Struct)
 spec_token spec_enum = Some (kind.Keyword the_keyword.Enum)
 spec_token (spec_named x) = Some (kind.Identifier x)

@@ -9,7 +9,7 @@ use Rattle.cc_lex.specs.declared.keyword.Keyword.TheVariants as the_keyword
 use Rattle.cc_lex.specs.declared.punct.Punct.TheVariants as the_punct
 use Rattle.cc_tree.specs.Trees.{Name, SpecTree, word, named, struct, enum, SpecTrees, MemberTrees, no_members, more_members, ConstantTrees, no_constants, more_constants}
 use Rattle.cc_tree.specs.Views.{gathered_specs, gathered_members, gathered_constants}
-use Rattle.cc_grammar.specs.Levels.{spec_keyword}
+use Rattle.cc_grammar.specs.Levels.{word_keyword}
 use Rattle.cc_grammar.specs.Names.{Names, is_type}
 use Rattle.cc_grammar.specs.Outline.{Outline, end, token, ◌▸◌}
 use Rattle.cc_grammar.specs.Outlines as outlines
@@ -145,7 +145,7 @@ module _ (names : Names) (inner : Inner) (d : ℕ) (members_sound : MembersSound
   pub spec_by_sound : (s : SpecStart) (ts : List Token) (x : SpecTree Spot × List Token) → spec_start names ts ≡ s → reader.spec_by names inner d s (spot ts) ts ≡ Ok x → SpecAt x.0 ts x.1
   spec_by_sound (spec_word w) ts x s e =
       subst (λ (y : SpecTree Spot × List Token). SpecAt y.0 ts y.1) (ok_is (word (spot ts) w, skip ts) x e)
-      (refl, opens (Unit {0}) (kind.Keyword (spec_keyword w)) end ts (skip ts) (ap spec_token s) tt refl)
+      (refl, opens (Unit {0}) (kind.Keyword (word_keyword w)) end ts (skip ts) (ap spec_token s) tt refl)
   spec_by_sound (spec_named y) ts x s e =
       subst (λ (z : SpecTree Spot × List Token). SpecAt z.0 ts z.1) (ok_is (named (spot ts) y, skip ts) x e)
       (refl, opens (is_type names y ≡ true) (kind.Identifier y) end ts (skip ts) (ap spec_token s) (spec_is_named names y ts s) refl)

@@ -8,7 +8,7 @@ use Rattle.cc_lex.specs.declared.keyword.Keyword.TheVariants as the_keyword
 use Rattle.cc_lex.specs.declared.punct.Punct.TheVariants as the_punct
 use Rattle.cc_tree.specs.Trees.{Name, SpecTree, word, named, struct, enum, SpecTrees, no_specs, more_specs, MemberTree, MemberTrees, no_members, more_members, ConstantTree, ConstantTrees, no_constants, more_constants}
 use Rattle.cc_tree.specs.Views.{gathered_specs, gathered_members, gathered_constants}
-use Rattle.cc_grammar.specs.Levels.{spec_keyword}
+use Rattle.cc_grammar.specs.Levels.{word_keyword}
 use Rattle.cc_grammar.specs.Names.{Names, is_type}
 use Rattle.cc_grammar.specs.Outline.{end, ◌▸◌}
 use Rattle.cc_grammar.specs.Outlines as outlines
@@ -121,7 +121,7 @@ module _ (names : Names) (inner : Inner) (d : ℕ) (ma : MembersAgain names inne
 
   spec_spent : (q : SpecTree Spot) (ts : List Token) → SpecCut q ts → OneTaken ts
   spec_spent q ts (inl e) = spec_nil ts e
-  spec_spent (word n v) ts (inr z) = token_elim ts z.1 (spec_nil ts) (λ h next st rest. whole (word n v) ts (kind_reads (Unit {0}) (kind.Keyword (spec_keyword v)) (Some n) end d ts [] next tt st rest.cut))
+  spec_spent (word n v) ts (inr z) = token_elim ts z.1 (spec_nil ts) (λ h next st rest. whole (word n v) ts (kind_reads (Unit {0}) (kind.Keyword (word_keyword v)) (Some n) end d ts [] next tt st rest.cut))
   spec_spent (named n x) ts (inr z) = token_elim ts z.1 (spec_nil ts) (λ h next st rest. whole (named n x) ts (kind_reads (is_type names x ≡ true) (kind.Identifier x) (Some n) end d ts [] next h st rest.cut))
   spec_spent (struct n t ms) ts (inr z) = by (last_within ts z.1)
     where

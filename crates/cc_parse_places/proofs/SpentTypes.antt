@@ -8,7 +8,7 @@ use Rattle.cc_lex.specs.declared.token.TokenKind.TheVariants as kind
 use Rattle.cc_lex.specs.declared.keyword.Keyword.TheVariants as the_keyword
 use Rattle.cc_lex.specs.declared.punct.Punct.TheVariants as the_punct
 use Rattle.cc_tree.specs.Trees.{ExprTree, ExprTrees, no_exprs, more_exprs, TypeTree, type_name, TypeTrees, no_types, more_types, SpecTree, word, named, struct, enum, SpecTrees, no_specs, more_specs, DeclTree, declared, nameless, pointer, array, function, grouped}
-use Rattle.cc_grammar.specs.Levels.{level, spec_keyword}
+use Rattle.cc_grammar.specs.Levels.{level, word_keyword}
 use Rattle.cc_grammar.specs.Names.{Names}
 use Rattle.cc_grammar.specs.Outline.{Outline, end, token, part, ◌▸◌}
 use Rattle.cc_grammar.specs.Outlines as outlines
@@ -87,7 +87,7 @@ keyword_starts names x d ts a more (inl e) = no_next ts more e
 keyword_starts names x d ts a more (inr z) = token_elim ts z.1 (no_next ts more) (λ h next st rest. spec_by_kind names x ts a next)
 
 pub begun_spec : (names : Names) (q : SpecTree Spot) (d : ℕ) (ts : List Token) → HasNext ts → Begun (outlines.spec names q) d ts [] → starts_spec names ts ≡ true
-begun_spec names (word n v) d ts more y = token_elim ts y (no_next ts more) (λ h next st rest. spec_by_kind names (kind.Keyword (spec_keyword v)) ts (word_starts v) next)
+begun_spec names (word n v) d ts more y = token_elim ts y (no_next ts more) (λ h next st rest. spec_by_kind names (kind.Keyword (word_keyword v)) ts (word_starts v) next)
 begun_spec names (named n x) d ts more y = token_elim ts y (no_next ts more) (λ h next st rest. spec_by_kind names (kind.Identifier x) ts (name_starts names x h) next)
 begun_spec names (struct n tag ms) d ts more y = keyword_starts names (kind.Keyword the_keyword.Struct) d ts refl more (last_within ts y)
 begun_spec names (enum n tag cs trailing) d ts more y = keyword_starts names (kind.Keyword the_keyword.Enum) d ts refl more (last_within ts y)
