@@ -26,16 +26,3 @@ pub fn tokens_have_one_tree()
     ensures { (tokens : List TokenValue) (f g : List (ExternalTree SpotValue))
         → Orderly f → Spells f tokens → Orderly g → Spells g tokens → f ≡ g }
 {}
-
-#[cfg(test)]
-mod tests {
-    use super::*;
-
-    // The laws do nothing; that they can be called is all that there is to see.
-    #[test]
-    fn laws() {
-        what_is_read_is_spelled();
-        each_file_is_read();
-        tokens_have_one_tree();
-    }
-}

@@ -38,17 +38,3 @@ pub fn no_cut_off_file_begins_so()
         → reading deepest tokens ≡ Err (refused ∷ rest)
         → CutOff deepest (take (length tokens - length rest) tokens) → ⊥ }
 {}
-
-#[cfg(test)]
-mod tests {
-    use super::*;
-
-    // The laws do nothing; that they can be called is all that there is to see.
-    #[test]
-    fn laws() {
-        a_token_is_refused_whatever_follows();
-        no_file_begins_so();
-        the_tokens_before_are_a_cut_off_file();
-        no_cut_off_file_begins_so();
-    }
-}
