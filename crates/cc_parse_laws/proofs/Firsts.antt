@@ -1,7 +1,7 @@
 -- With which tokens expressions, specifiers and declarators begin.
 use Rattle.std.proofs.Common.{◌≡◌, ◌≤◌, refl, ℕ, zero, suc, Bool, true, false, List, [], ◌∷◌, Option, Some, arith, sym, ap, ◌∙◌}
 use Rattle.std.proofs.lemmas.Bool.{and_left, and_right}
-use Rattle.std.specs.Prelude.{◌&&◌, ◌||◌}
+use Rattle.std.specs.Prelude.{◌&&◌}
 use Rattle.cc_arith.specs.declared.binary_operator.IntOp.{IntOp}
 use Rattle.cc_arith.specs.declared.binary_operator.IntOp.TheVariants as int
 use Rattle.cc_arith.specs.declared.unary_operator.IntUnary.TheVariants as int_unary
