@@ -1,4 +1,4 @@
--- The same as `Disorders` for declarations: trees that tokens spell, and that are not orderly.
+-- Declarations that tokens spell, with each spot that a token fixes, and that are not orderly all the same.
 use Rattle.std.proofs.Common.{true, false, [], ◌∷◌, Some, None, codes, arith, rules}
 use Rattle.cc_lex.specs.Meanings.{meaning, word}
 use Rattle.cc_lex.specs.Spellings.{keywords, puncts}

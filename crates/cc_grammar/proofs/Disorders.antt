@@ -12,7 +12,8 @@ use Rattle.cc_tree.specs.declared.operator.AssignOp.TheVariants as the_assign
 use Rattle.cc_tree.specs.declared.operator.StepOp.TheVariants as the_step
 use Rattle.cc_tree.specs.declared.operator.Side.TheVariants as side
 use Rattle.cc_tree.specs.declared.operator.SpecWord.TheVariants as the_spec_word
-use Rattle.cc_grammar.specs.Outlines.{Orderly, Spells}
+use Rattle.cc_grammar.specs.Orderly.{Orderly}
+use Rattle.cc_grammar.specs.Spells.{Spells}
 use Rattle.cc_grammar.proofs.Texts.{tokens, at}
 
 abbrev pub Disordered : List ℕ → List (trees.ExternalTree Spot) → Type 0
@@ -127,7 +128,7 @@ a_member_of_a_sign : Disordered (codes "void f ( ) { - a . b ; }") (body (trees.
 unfolding meaning word keywords puncts
 a_member_of_a_sign = (search rules, λ h. omega (arith, h))
 
--- the same by `->`
+-- nor one by `->`
 an_arrow_of_a_sign : Disordered (codes "void f ( ) { - a -> b ; }") (body (trees.plain (at 6) (trees.arrow (at 8) (trees.unary (at 6) (the_unary.Int int_unary.Minus) (n 7 (codes "a"))) (codes "b"))))
 unfolding meaning word keywords puncts
 an_arrow_of_a_sign = (search rules, λ h. omega (arith, h))

@@ -1,9 +1,8 @@
-pub mod Agreement
 pub mod DeclarationDisorders
 pub mod Disorders
 pub mod Examples
 pub mod Limits
-pub mod Orders
+pub mod Places
 pub mod Shapes
 pub mod Texts
 pub mod WholeTrees

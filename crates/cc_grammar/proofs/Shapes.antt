@@ -73,7 +73,7 @@ casts : expr_of (codes "T" ∷ []) (codes "( T ) x") ≡ Some (trees.cast (at 1)
 unfolding meaning word keywords puncts
 casts = refl
 
--- the same before parentheses
+-- one before parentheses
 casts_of_parentheses : expr_of (codes "T" ∷ []) (codes "( T ) ( x )") ≡ Some (trees.cast (at 1) (type_t 2) (trees.paren (at 4) (n 5 (codes "x"))))
 unfolding meaning word keywords puncts
 casts_of_parentheses = refl

@@ -4,7 +4,9 @@ use Rattle.cc_lex.specs.declared.token.Token.{Token}
 use Rattle.cc_tree.specs.Trees.{ExternalTree}
 use Rattle.cc_base.specs.declared.place.Spot.{Spot}
 use Rattle.cc_grammar.specs.Outline.{Outline, end, token, part, Written, AllHold, depth, deeper, size, first, spell, Meets}
-use Rattle.cc_grammar.specs.Outlines.{file, limit, WellFormed, CutOff}
+use Rattle.cc_grammar.specs.Outlines.{file}
+use Rattle.cc_grammar.specs.WellFormed.{WellFormed}
+use Rattle.cc_grammar.specs.CutOff.{CutOff}
 
 -- what holds of all holds of the first
 pub still_hold : (o : Outline) (n : ℕ) → AllHold o → AllHold (first n o)
@@ -38,8 +40,8 @@ all_spelled (token a k s o) (suc n) r h = ap (λ z. record { kind = k; spot = s 
 all_spelled (part c a i o) (suc n) r h =
     all_spelled i (suc n) (spell (first (suc n - size i) o) r) (omega (arith, h)) ∙ ap (spell i) (all_spelled o (suc n - size i) r (omega (arith, h)))
 
-pub whole_is_cut_off : (tokens : List Token) (f : List (ExternalTree Spot)) → WellFormed tokens f → CutOff limit tokens
-whole_is_cut_off tokens f w =
+pub whole_is_cut_off : (deepest : ℕ) (tokens : List Token) (f : List (ExternalTree Spot)) → WellFormed deepest tokens f → CutOff deepest tokens
+whole_is_cut_off deepest tokens f w =
     let n = size (file f) in
     record {
       tree = f;

@@ -117,17 +117,17 @@ assign_punct the_assign.And = the_punct.AndEqual
 assign_punct the_assign.Xor = the_punct.CaretEqual
 assign_punct the_assign.Or = the_punct.OrEqual
 
-abbrev pub spec_keyword : SpecWord → Keyword
-spec_keyword the_spec_word.Typedef = the_keyword.Typedef
-spec_keyword the_spec_word.Extern = the_keyword.Extern
-spec_keyword the_spec_word.Static = the_keyword.Static
-spec_keyword the_spec_word.Inline = the_keyword.Inline
-spec_keyword the_spec_word.Const = the_keyword.Const
-spec_keyword the_spec_word.Void = the_keyword.Void
-spec_keyword the_spec_word.Char = the_keyword.Char
-spec_keyword the_spec_word.Short = the_keyword.Short
-spec_keyword the_spec_word.Int = the_keyword.Int
-spec_keyword the_spec_word.Long = the_keyword.Long
-spec_keyword the_spec_word.Signed = the_keyword.Signed
-spec_keyword the_spec_word.Unsigned = the_keyword.Unsigned
-spec_keyword the_spec_word.Bool = the_keyword.Bool
+abbrev pub word_keyword : SpecWord → Keyword
+word_keyword the_spec_word.Typedef = the_keyword.Typedef
+word_keyword the_spec_word.Extern = the_keyword.Extern
+word_keyword the_spec_word.Static = the_keyword.Static
+word_keyword the_spec_word.Inline = the_keyword.Inline
+word_keyword the_spec_word.Const = the_keyword.Const
+word_keyword the_spec_word.Void = the_keyword.Void
+word_keyword the_spec_word.Char = the_keyword.Char
+word_keyword the_spec_word.Short = the_keyword.Short
+word_keyword the_spec_word.Int = the_keyword.Int
+word_keyword the_spec_word.Long = the_keyword.Long
+word_keyword the_spec_word.Signed = the_keyword.Signed
+word_keyword the_spec_word.Unsigned = the_keyword.Unsigned
+word_keyword the_spec_word.Bool = the_keyword.Bool

@@ -5,3 +5,8 @@ pub mod Outlines
 pub mod Classes
 pub mod Outcomes
 pub mod Reading
+pub mod Orderly
+pub mod Spells
+pub mod Limit
+pub mod WellFormed
+pub mod CutOff

@@ -28,16 +28,17 @@ spell end r = r
 spell (token h k s o) r = record { kind = k; spot = s } ∷ spell o r
 spell (part c h i o) r = spell i (spell o r)
 
-abbrev pub Stands : Option Spot → Spot → Type 0
-Stands None spot = Unit {0}
-Stands (Some s) spot = spot ≡ s
+-- it is the spot that is wanted, if one is
+abbrev pub FitsSpot : Option Spot → Spot → Type 0
+FitsSpot None spot = Unit {0}
+FitsSpot (Some s) spot = spot ≡ s
 
 -- the tokens are those that are written
 abbrev pub Meets : List Token → List Written → Type 0
 Meets [] [] = Unit {0}
 Meets [] (w ∷ ws) = ⊥
 Meets (t ∷ ts) [] = ⊥
-Meets (t ∷ ts) (w ∷ ws) = (t.kind ≡ w.kind) × Stands w.spot t.spot × Meets ts ws
+Meets (t ∷ ts) (w ∷ ws) = (t.kind ≡ w.kind) × FitsSpot w.spot t.spot × Meets ts ws
 
 -- ---- Order and depth
 

@@ -1,7 +1,6 @@
 -- The grammar (C17 6.5, 6.7, 6.8, 6.9, as far as the profile has it): the outline of each tree, production by production.
 use Rattle.std.specs.Prelude.{◌≡◌, ℕ, zero, suc, ◌+◌, ◌≤◌, Bool, true, false, List, [], ◌∷◌, Option, Some, None, if◌then◌else◌}
 use Rattle.cc_base.specs.declared.place.Spot.{Spot}
-use Rattle.cc_lex.specs.declared.token.Token.{Token}
 use Rattle.cc_lex.specs.declared.token.TokenKind.TheVariants as kind
 use Rattle.cc_lex.specs.declared.keyword.Keyword.{Keyword}
 use Rattle.cc_lex.specs.declared.keyword.Keyword.TheVariants as the_keyword
@@ -10,8 +9,8 @@ use Rattle.cc_lex.specs.declared.punct.Punct.TheVariants as the_punct
 use Rattle.cc_tree.specs.declared.operator.Side.TheVariants as side
 use Rattle.cc_tree.specs.Trees.{Name, ExprTree, name, integer, character, string, paren, unary, binary, assign, step, choice, comma, call, member, arrow, index, cast, size_expr, size_type, ExprTrees, no_exprs, more_exprs, ExprOption, no_expr, an_expr, TypeTree, type_name, TypeTrees, no_types, more_types, SpecTree, word, named, struct, enum, SpecTrees, no_specs, more_specs, MemberTree, members, MemberTrees, no_members, more_members, ConstantTree, constant, ConstantTrees, no_constants, more_constants, DeclTree, declared, nameless, pointer, array, function, grouped, DeclTrees, no_declarators, more_declarators}
 use Rattle.cc_tree.specs.Trees.{ValueTree, single, braces, ValueTrees, no_values, more_values, InitTree, init, DeclarationTree, declaration, StartTree, start_declaration, start_expr, no_start, StmtTree, compound, plain, empty, if_then, if_else, switch, while_loop, do_loop, for_loop, break, continue, return, BlockTree, block, ItemTree, declares, case_label, default_label, does, ItemTrees, no_items, more_items, ExternalTree, outer_declaration, definition}
-use Rattle.cc_grammar.specs.Outline.{Outline, end, token, part, ◌▸◌, AllHold, depth, spell, Meets, first}
-use Rattle.cc_grammar.specs.Levels.{level, binary_level, unary_punct, step_punct, binary_punct, assign_punct, spec_keyword}
+use Rattle.cc_grammar.specs.Outline.{Outline, end, token, part, ◌▸◌}
+use Rattle.cc_grammar.specs.Levels.{level, binary_level, unary_punct, step_punct, binary_punct, assign_punct, word_keyword}
 use Rattle.cc_grammar.specs.Names.{Names, is_type, has_typedef, after_declarator, after_inits, after_start, after_stmt, after_item, after_external}
 
 -- ---- Tokens and parts
@@ -235,7 +234,7 @@ abbrev mutual
   more_parameters names (more_types t ts) = punct the_punct.Comma ▸ within (parameter names t) ▸ within (more_parameters names ts) ▸ end
 
   pub spec : Names → SpecTree Spot → Outline
-  spec names (word n w) = keyword_of n (spec_keyword w) ▸ end
+  spec names (word n w) = keyword_of n (word_keyword w) ▸ end
   spec names (named n x) = token (is_type names x ≡ true) (kind.Identifier x) (Some n) ▸ end
   spec names (struct n tag ms) = part false (IsShaped (struct n tag ms)) (keyword_of n the_keyword.Struct ▸ within (tag_of tag) ▸ within (member_list names ms) ▸ end) ▸ end
   spec names (enum n tag cs trailing) = part false (IsShaped (enum n tag cs trailing)) (keyword_of n the_keyword.Enum ▸ within (tag_of tag) ▸ within (constant_list names cs trailing) ▸ end) ▸ end
@@ -396,32 +395,3 @@ externals names (x ∷ xs) = within (external names x) ▸ within (externals (af
 
 abbrev pub file : List (ExternalTree Spot) → Outline
 file = externals []
-
--- ---- What is said of a file
-
--- each part is of the production that the grammar asks at its place, each `else` belongs to the nearest `if`, each name is
--- an identifier or a typedef name as its place demands, and each node has the spot of the token that fixes its place
-abbrev pub Orderly : List (ExternalTree Spot) → Type 0
-Orderly f = AllHold (file f)
-
--- the tokens are the spelling of the file
-abbrev pub Spells : List (ExternalTree Spot) → List Token → Type 0
-Spells f tokens = Meets tokens (spell (file f) [])
-
--- how deep nodes may stand
-abbrev pub limit : ℕ
-limit = 64
-
--- the tokens are a file of the grammar
-pub record WellFormed (tokens : List Token) (f : List (ExternalTree Spot)) : Type 0 where
-  pub orderly : Orderly f
-  pub shallow : depth (file f) ≤ limit
-  pub spelled : Spells f tokens
-
--- The tokens are the spelling of a tree that is cut off behind them: orderly as far as it is there, and no deeper there.
-pub record CutOff (deepest : ℕ) (tokens : List Token) : Type 0 where
-  pub tree : List (ExternalTree Spot)
-  pub there : ℕ
-  pub orderly : AllHold (first there (file tree))
-  pub shallow : depth (first there (file tree)) ≤ deepest
-  pub spelled : Meets tokens (spell (first there (file tree)) [])

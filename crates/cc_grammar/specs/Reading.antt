@@ -45,7 +45,7 @@ separated_by one (suc turns) = one >>= (λ x. where_next (next_is the_punct.Comm
 abbrev pub separated : {A : Type 0} → Parser A → Parser (List A)
 separated one = λ ts. separated_by one (length ts) ts
 
--- the same up to a brace, and whether a comma stands before it
+-- one or more up to a brace, and whether a comma stands before it
 abbrev pub enclosed_by : {A : Type 0} → Parser A → ℕ → Parser (List A × Bool)
 enclosed_by one zero = refuse
 enclosed_by one (suc turns) = one >>= (λ x. where_next (next_is the_punct.Comma)

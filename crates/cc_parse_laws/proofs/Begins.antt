@@ -10,7 +10,7 @@ use Rattle.cc_lex.specs.declared.punct.Punct.{Punct}
 use Rattle.cc_lex.specs.declared.punct.Punct.TheVariants as the_punct
 use Rattle.cc_tree.specs.declared.operator.Side.TheVariants as side
 use Rattle.cc_tree.specs.Trees.{ExprTree, name, integer, character, string, paren, unary, binary, assign, step, choice, comma, call, member, arrow, index, cast, size_expr, size_type}
-use Rattle.cc_grammar.specs.Outline.{Outline, end, token, part, Stands}
+use Rattle.cc_grammar.specs.Outline.{Outline, end, token, part, FitsSpot}
 use Rattle.cc_grammar.specs.Outlines as outlines
 use Rattle.cc_grammar.specs.Names.{Names}
 use Rattle.cc_grammar.specs.Classes.{is_punct, is_keyword, next_is, next_is_keyword, spot, StmtStart, begins_block, begins_empty, begins_if, begins_switch, begins_while, begins_do, begins_for, begins_break, begins_continue, begins_return, begins_case, begins_default, begins_other, stmt_keyword, stmt_punct, stmt_kind, stmt_start}
@@ -25,7 +25,7 @@ first_spot end = None
 first_spot (token h k n i) = n
 first_spot (part c h i j) = None
 
-stands : (n : Option Spot) (m l : Spot) → n ≡ Some m → Stands n l → m ≡ l
+stands : (n : Option Spot) (m l : Spot) → n ≡ Some m → FitsSpot n l → m ≡ l
 stands None m l e s = absurd cc
 stands (Some k) m l e s = cc
 

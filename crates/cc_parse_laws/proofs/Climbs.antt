@@ -33,7 +33,7 @@ rest_is a m r e = ap (done a) e
 pub not_zero : (d : ℕ) → (suc d == 0) ≡ false
 not_zero d = ne_eqb (suc d) 0 (λ z. omega (arith, z))
 
-goes_on_is : (names : Names) (inner : Inner) (d least : ℕ) (left : ExprTree Spot) (t : Tail) → least ≤ binds t → left_level t ≤ level left → expr_depth left < d → goes_on names inner d least left t ≡ true
+pub goes_on_is : (names : Names) (inner : Inner) (d least : ℕ) (left : ExprTree Spot) (t : Tail) → least ≤ binds t → left_level t ≤ level left → expr_depth left < d → goes_on names inner d least left t ≡ true
 goes_on_is names inner d least left t a b c = rw (le-leb _ _ a, le-leb _ _ b, lt-ltb _ _ c) refl
 
 stops_at : (names : Names) (inner : Inner) (d least : ℕ) (left : ExprTree Spot) (t : Tail) → binds t < least → goes_on names inner d least left t ≡ false

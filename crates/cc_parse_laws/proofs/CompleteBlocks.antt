@@ -17,40 +17,40 @@ use Rattle.cc_grammar.specs.Reading.{readers, label_by, item, items_by, stmt}
 use Rattle.cc_parse_laws.proofs.Spans.{Reads}
 use Rattle.cc_parse_laws.proofs.Steps.{reads_length}
 use Rattle.cc_parse_laws.proofs.Inner.{CompleteInner}
-use Rattle.cc_parse_laws.proofs.Peeks.{after, inside, sign_spec, punct_keyword, sign_other}
+use Rattle.cc_parse_laws.proofs.Peeks.{after, inside, punct_spec, punct_keyword, punct_other}
 use Rattle.cc_parse_laws.proofs.Firsts.{inside_sinks, first_expr, opens_not, first_specs, spec_not}
-use Rattle.cc_parse_laws.proofs.Nexts.{sign_stmt, key_other, keyword_punct, key_spec, key_stmt, spec_no_else, expr_other, expr_no_else}
+use Rattle.cc_parse_laws.proofs.Nexts.{punct_stmt, keyword_other, keyword_punct, keyword_spec, keyword_stmt, spec_no_else, expr_other, expr_no_else}
 use Rattle.cc_parse_laws.proofs.Pieces.{only, only_counted, at_depth, comes, comes_keyword, got_expr}
 use Rattle.cc_parse_laws.proofs.CompleteDeclarations.{declaration_again}
 use Rattle.cc_parse_laws.proofs.CompleteStatements.{IsStmt, empty_again, break_again, continue_again, plain_again, return_again, if_then_again, if_else_again, switch_again, while_again, do_again, for_again}
 
 -- ---- With which tokens statements and items begin
 
-is_label : StmtStart → Bool
+unfoldable pub is_label : StmtStart → Bool
 is_label begins_case = true
 is_label begins_default = true
 is_label _ = false
 
 -- neither a declaration nor a label begins here, nor does a block end, nor an `else` come
-record OpensStmt (names : Names) (ts : List Token) : Type 0 where
-  no_spec : starts_spec names ts ≡ false
-  no_brace : next_is the_punct.RightBrace ts ≡ false
-  no_else : next_is_keyword the_keyword.Else ts ≡ false
-  no_label : is_label (stmt_start ts) ≡ false
+pub record OpensStmt (names : Names) (ts : List Token) : Type 0 where
+  pub no_spec : starts_spec names ts ≡ false
+  pub no_brace : next_is the_punct.RightBrace ts ≡ false
+  pub no_else : next_is_keyword the_keyword.Else ts ≡ false
+  pub no_label : is_label (stmt_start ts) ≡ false
 
-key_opens : (names : Names) (w : Keyword) (n : Spot) (i : Outline) (d : ℕ) (ts r : List Token) → is_spec (spec_keyword w) ≡ false → same_keyword the_keyword.Else w ≡ false → is_label (stmt_keyword w) ≡ false
+pub reads_keyword_opens : (names : Names) (w : Keyword) (n : Spot) (i : Outline) (d : ℕ) (ts r : List Token) → is_spec (spec_keyword w) ≡ false → same_keyword the_keyword.Else w ≡ false → is_label (stmt_keyword w) ≡ false
     → Reads (part true (Unit {0}) (outlines.keyword_of n w i) end) d ts r → OpensStmt names ts
-key_opens names w n i d ts r a b c x =
+reads_keyword_opens names w n i d ts r a b c x =
     let y = only_counted (Unit {0}) (outlines.keyword_of n w i) d ts r x in
     let word = comes_keyword w (Some n) (Unit {0}) i d ts r (inside_sinks true (outlines.keyword_of n w i) d ts r y.1) in
-    record { no_spec = key_spec names w ts a word.is; no_brace = keyword_punct the_punct.RightBrace w ts word.is; no_else = key_other the_keyword.Else w ts b word.is; no_label = ap is_label (key_stmt w ts word.is) ∙ c }
+    record { no_spec = keyword_spec names w ts a word.is; no_brace = keyword_punct the_punct.RightBrace w ts word.is; no_else = keyword_other the_keyword.Else w ts b word.is; no_label = ap is_label (keyword_stmt w ts word.is) ∙ c }
 
-sign_opens : (names : Names) (s : Punct) (n : Spot) (i : Outline) (d : ℕ) (ts r : List Token) → same_punct the_punct.RightBrace s ≡ false → is_label (stmt_punct s) ≡ false
+pub reads_punct_opens : (names : Names) (s : Punct) (n : Spot) (i : Outline) (d : ℕ) (ts r : List Token) → same_punct the_punct.RightBrace s ≡ false → is_label (stmt_punct s) ≡ false
     → Reads (part true (Unit {0}) (outlines.punct_of n s i) end) d ts r → OpensStmt names ts
-sign_opens names s n i d ts r a b x =
+reads_punct_opens names s n i d ts r a b x =
     let y = only_counted (Unit {0}) (outlines.punct_of n s i) d ts r x in
     let here = comes s (Some n) i d ts r (inside_sinks true (outlines.punct_of n s i) d ts r y.1) in
-    record { no_spec = sign_spec names s ts here.is; no_brace = sign_other the_punct.RightBrace s ts a here.is; no_else = punct_keyword the_keyword.Else s ts here.is; no_label = ap is_label (sign_stmt s ts here.is) ∙ b }
+    record { no_spec = punct_spec names s ts here.is; no_brace = punct_other the_punct.RightBrace s ts a here.is; no_else = punct_keyword the_keyword.Else s ts here.is; no_label = ap is_label (punct_stmt s ts here.is) ∙ b }
 
 plain_opens : (names : Names) (n : Spot) (e : ExprTree Spot) (d : ℕ) (ts r : List Token) → Reads (outlines.stmt names (plain n e)) d ts r → OpensStmt names ts
 unfolding is_label
@@ -62,33 +62,33 @@ plain_opens names n e d ts r x =
 
 block_opens : (names : Names) (b : BlockTree Spot) (d : ℕ) (ts r : List Token) → Reads (outlines.block_of names b) d ts r → OpensStmt names ts
 unfolding is_label
-block_opens names (block n is) d ts r x = sign_opens names the_punct.LeftBrace n (after (inside (outlines.block_of names (block n is)))) d ts r refl refl x
+block_opens names (block n is) d ts r x = reads_punct_opens names the_punct.LeftBrace n (after (inside (outlines.block_of names (block n is)))) d ts r refl refl x
 
-stmt_opens : (names : Names) (s : StmtTree Spot) (d : ℕ) (ts r : List Token) → Reads (outlines.stmt names s) d ts r → OpensStmt names ts
+pub stmt_opens : (names : Names) (s : StmtTree Spot) (d : ℕ) (ts r : List Token) → Reads (outlines.stmt names s) d ts r → OpensStmt names ts
 unfolding is_label
 stmt_opens names (compound b) d ts r x = block_opens names b d ts r x
 stmt_opens names (plain n e) d ts r x = plain_opens names n e d ts r x
-stmt_opens names (empty n) d ts r x = sign_opens names the_punct.Semicolon n (after (inside (outlines.stmt names (empty n)))) d ts r refl refl x
-stmt_opens names (if_then n c s) d ts r x = key_opens names the_keyword.If n (after (inside (outlines.stmt names (if_then n c s)))) d ts r refl refl refl x
-stmt_opens names (if_else n c s t) d ts r x = key_opens names the_keyword.If n (after (inside (outlines.stmt names (if_else n c s t)))) d ts r refl refl refl x
-stmt_opens names (switch n e b) d ts r x = key_opens names the_keyword.Switch n (after (inside (outlines.stmt names (switch n e b)))) d ts r refl refl refl x
-stmt_opens names (while_loop n c s) d ts r x = key_opens names the_keyword.While n (after (inside (outlines.stmt names (while_loop n c s)))) d ts r refl refl refl x
-stmt_opens names (do_loop n s c) d ts r x = key_opens names the_keyword.Do n (after (inside (outlines.stmt names (do_loop n s c)))) d ts r refl refl refl x
-stmt_opens names (for_loop n a test each s) d ts r x = key_opens names the_keyword.For n (after (inside (outlines.stmt names (for_loop n a test each s)))) d ts r refl refl refl x
-stmt_opens names (break n) d ts r x = key_opens names the_keyword.Break n (after (inside (outlines.stmt names (break n)))) d ts r refl refl refl x
-stmt_opens names (continue n) d ts r x = key_opens names the_keyword.Continue n (after (inside (outlines.stmt names (continue n)))) d ts r refl refl refl x
-stmt_opens names (return n e) d ts r x = key_opens names the_keyword.Return n (after (inside (outlines.stmt names (return n e)))) d ts r refl refl refl x
+stmt_opens names (empty n) d ts r x = reads_punct_opens names the_punct.Semicolon n (after (inside (outlines.stmt names (empty n)))) d ts r refl refl x
+stmt_opens names (if_then n c s) d ts r x = reads_keyword_opens names the_keyword.If n (after (inside (outlines.stmt names (if_then n c s)))) d ts r refl refl refl x
+stmt_opens names (if_else n c s t) d ts r x = reads_keyword_opens names the_keyword.If n (after (inside (outlines.stmt names (if_else n c s t)))) d ts r refl refl refl x
+stmt_opens names (switch n e b) d ts r x = reads_keyword_opens names the_keyword.Switch n (after (inside (outlines.stmt names (switch n e b)))) d ts r refl refl refl x
+stmt_opens names (while_loop n c s) d ts r x = reads_keyword_opens names the_keyword.While n (after (inside (outlines.stmt names (while_loop n c s)))) d ts r refl refl refl x
+stmt_opens names (do_loop n s c) d ts r x = reads_keyword_opens names the_keyword.Do n (after (inside (outlines.stmt names (do_loop n s c)))) d ts r refl refl refl x
+stmt_opens names (for_loop n a test each s) d ts r x = reads_keyword_opens names the_keyword.For n (after (inside (outlines.stmt names (for_loop n a test each s)))) d ts r refl refl refl x
+stmt_opens names (break n) d ts r x = reads_keyword_opens names the_keyword.Break n (after (inside (outlines.stmt names (break n)))) d ts r refl refl refl x
+stmt_opens names (continue n) d ts r x = reads_keyword_opens names the_keyword.Continue n (after (inside (outlines.stmt names (continue n)))) d ts r refl refl refl x
+stmt_opens names (return n e) d ts r x = reads_keyword_opens names the_keyword.Return n (after (inside (outlines.stmt names (return n e)))) d ts r refl refl refl x
 
 -- an item comes next: the block doesn't end, and no `else` comes
-record OpensItem (ts : List Token) : Type 0 where
-  no_brace : next_is the_punct.RightBrace ts ≡ false
-  no_else : next_is_keyword the_keyword.Else ts ≡ false
+pub record OpensItem (ts : List Token) : Type 0 where
+  pub no_brace : next_is the_punct.RightBrace ts ≡ false
+  pub no_else : next_is_keyword the_keyword.Else ts ≡ false
 
-key_item : (w : Keyword) (n : Spot) (i : Outline) (d : ℕ) (ts r : List Token) → same_keyword the_keyword.Else w ≡ false → Reads (part true (Unit {0}) (outlines.keyword_of n w i) end) d ts r → OpensItem ts
-key_item w n i d ts r b x =
+keyword_item : (w : Keyword) (n : Spot) (i : Outline) (d : ℕ) (ts r : List Token) → same_keyword the_keyword.Else w ≡ false → Reads (part true (Unit {0}) (outlines.keyword_of n w i) end) d ts r → OpensItem ts
+keyword_item w n i d ts r b x =
     let y = only_counted (Unit {0}) (outlines.keyword_of n w i) d ts r x in
     let word = comes_keyword w (Some n) (Unit {0}) i d ts r (inside_sinks true (outlines.keyword_of n w i) d ts r y.1) in
-    record { no_brace = keyword_punct the_punct.RightBrace w ts word.is; no_else = key_other the_keyword.Else w ts b word.is }
+    record { no_brace = keyword_punct the_punct.RightBrace w ts word.is; no_else = keyword_other the_keyword.Else w ts b word.is }
 
 declares_item : (names : Names) (a : DeclarationTree Spot) (d : ℕ) (ts r : List Token) → Reads (outlines.item names (declares a)) d ts r → OpensItem ts
 declares_item names (declaration n ss is) d ts r x =
@@ -98,10 +98,10 @@ declares_item names (declaration n ss is) d ts r x =
     let starts = (first_specs names ss n d ts z.0 y.0 z.2).0 in
     record { no_brace = spec_not names the_punct.RightBrace ts starts; no_else = spec_no_else names ts starts }
 
-item_opens : (names : Names) (i : ItemTree Spot) (d : ℕ) (ts r : List Token) → Reads (outlines.item names i) d ts r → OpensItem ts
+pub item_opens : (names : Names) (i : ItemTree Spot) (d : ℕ) (ts r : List Token) → Reads (outlines.item names i) d ts r → OpensItem ts
 item_opens names (declares a) d ts r x = declares_item names a d ts r x
-item_opens names (case_label n e) d ts r x = key_item the_keyword.Case n (after (inside (outlines.item names (case_label n e)))) d ts r refl x
-item_opens names (default_label n) d ts r x = key_item the_keyword.Default n (after (inside (outlines.item names (default_label n)))) d ts r refl x
+item_opens names (case_label n e) d ts r x = keyword_item the_keyword.Case n (after (inside (outlines.item names (case_label n e)))) d ts r refl x
+item_opens names (default_label n) d ts r x = keyword_item the_keyword.Default n (after (inside (outlines.item names (default_label n)))) d ts r refl x
 item_opens names (does s) d ts r x = let y = stmt_opens names s d ts r x in record { no_brace = y.no_brace; no_else = y.no_else }
 
 items_no_else : (names : Names) (is : ItemTrees Spot) (d : ℕ) (ts r : List Token) → Reads (outlines.items names is) d ts r → next_is the_punct.RightBrace r ≡ true → next_is_keyword the_keyword.Else ts ≡ false
@@ -130,7 +130,7 @@ stmt_size names (return n e) = omega arith
 declaration_size : (names : Names) (a : DeclarationTree Spot) → 1 ≤ size (outlines.declaration_of names a)
 declaration_size names (declaration n ss is) = omega arith
 
-item_size : (names : Names) (i : ItemTree Spot) → 1 ≤ size (outlines.item names i)
+pub item_size : (names : Names) (i : ItemTree Spot) → 1 ≤ size (outlines.item names i)
 item_size names (declares a) = omega (arith, declaration_size names a)
 item_size names (case_label n e) = omega arith
 item_size names (default_label n) = omega arith
@@ -138,7 +138,7 @@ item_size names (does s) = stmt_size names s
 
 -- ---- Items
 
-abbrev IsItem : ItemTree Spot → Type 0
+abbrev pub IsItem : ItemTree Spot → Type 0
 IsItem i = (names : Names) (d : ℕ) (ts r : List Token) → Reads (outlines.item names i) d ts r → next_is_keyword the_keyword.Else r ≡ false → item (stmt d) d names ts ≡ Ok (i, r)
 
 abbrev AllItems : ItemTrees Spot → Type 0
@@ -146,7 +146,7 @@ AllItems no_items = Unit {0}
 AllItems (more_items i is) = IsItem i × AllItems is
 
 -- what begins no label is a statement
-no_label_by : (inner : Names → Parser (StmtTree Spot)) (d : ℕ) (s : StmtStart) (names : Names) (n : Spot) (ts : List Token) → is_label s ≡ false → label_by inner d s names n ts ≡ (does <$> inner names) ts
+pub no_label_by : (inner : Names → Parser (StmtTree Spot)) (d : ℕ) (s : StmtStart) (names : Names) (n : Spot) (ts : List Token) → is_label s ≡ false → label_by inner d s names n ts ≡ (does <$> inner names) ts
 unfolding is_label
 no_label_by inner d begins_case names n ts e = absurd cc
 no_label_by inner d begins_default names n ts e = absurd cc
@@ -171,12 +171,12 @@ default_inside : (n : Spot) (names : Names) (d : ℕ) (ts r : List Token) → Re
 default_inside n names d ts r x =
     let word = comes_keyword the_keyword.Default (Some n) (Unit {0}) (after (inside (outlines.item names (default_label n)))) d ts r x in
     let colon = comes the_punct.Colon None end d (skip ts) r word.then in
-    rw (key_spec names the_keyword.Default ts refl word.is, key_stmt the_keyword.Default ts word.is, word.at, colon.taken, colon.then) refl
+    rw (keyword_spec names the_keyword.Default ts refl word.is, keyword_stmt the_keyword.Default ts word.is, word.at, colon.taken, colon.then) refl
 
 default_again : (n : Spot) → IsItem (default_label n)
 default_again n names d ts r x e = item_at names (default_label n) (Unit {0}) d ts r x (λ f _ y. default_inside n names f ts r y)
 
-listed : ItemTrees Spot → List (ItemTree Spot)
+pub listed : ItemTrees Spot → List (ItemTree Spot)
 listed no_items = []
 listed (more_items i is) = i ∷ listed is
 
@@ -185,7 +185,7 @@ unfolding listed
 gathered_listed no_items = refl
 gathered_listed (more_items i is) = ap (more_items i) (gathered_listed is)
 
-items_again : (is : ItemTrees Spot) → AllItems is → (names : Names) (d turns : ℕ) (ts r : List Token) → Reads (outlines.items names is) d ts r → next_is the_punct.RightBrace r ≡ true → length ts < turns
+pub items_again : (is : ItemTrees Spot) → AllItems is → (names : Names) (d turns : ℕ) (ts r : List Token) → Reads (outlines.items names is) d ts r → next_is the_punct.RightBrace r ≡ true → length ts < turns
     → items_by (stmt d) d turns names ts ≡ Ok (listed is, skip r)
 unfolding listed
 items_again is all names d zero ts r x e h = absurd (omega (arith, h))
@@ -202,7 +202,7 @@ block_inside n is all names d ts r x =
     let y = brace.then in
     let close = comes the_punct.RightBrace None end d y.0 r y.3 in
     let read = items_again is all names d (suc (length (skip ts))) (skip ts) y.0 y.2 close.is (omega arith) in
-    rw (sign_stmt the_punct.LeftBrace ts brace.is, brace.at, read, gathered_listed is, close.then) refl
+    rw (punct_stmt the_punct.LeftBrace ts brace.is, brace.at, read, gathered_listed is, close.then) refl
 
 block_again : (n : Spot) (is : ItemTrees Spot) → AllItems is → IsStmt (compound (block n is))
 block_again n is all names d ts r x ends = stmt_at names (compound (block n is)) (Unit {0}) d ts r x (λ f _ y. block_inside n is all names f ts r y)
@@ -222,7 +222,7 @@ module _ (readers_complete : (names : Names) (d : ℕ) → CompleteInner names (
       let word = comes_keyword the_keyword.Case (Some n) (Unit {0}) (after (inside (outlines.item names (case_label n c)))) d ts r x in
       let read = got_expr readers_complete names d 3 c the_punct.Colon end (skip ts) r (omega arith) word.then in
       let colon = comes the_punct.Colon None end d read.rest r read.then in
-      rw (key_spec names the_keyword.Case ts refl word.is, key_stmt the_keyword.Case ts word.is, word.at, read.reads, colon.taken, colon.then) refl
+      rw (keyword_spec names the_keyword.Case ts refl word.is, keyword_stmt the_keyword.Case ts word.is, word.at, read.reads, colon.taken, colon.then) refl
 
   case_again : (n : Spot) (c : ExprTree Spot) → IsItem (case_label n c)
   case_again n c names d ts r x e = item_at names (case_label n c) (Unit {0}) d ts r x (λ f _ y. case_inside n c names f ts r y)
@@ -245,13 +245,13 @@ module _ (readers_complete : (names : Names) (d : ℕ) → CompleteInner names (
     is_block : (b : BlockTree Spot) → IsStmt (compound b)
     is_block (block n is) = block_again n is (are_items is)
 
-    is_item : (i : ItemTree Spot) → IsItem i
+    pub is_item : (i : ItemTree Spot) → IsItem i
     is_item (declares a) = declares_again a
     is_item (case_label n e) = case_again n e
     is_item (default_label n) = default_again n
     is_item (does s) = does_again s (is_stmt s)
 
-    are_items : (is : ItemTrees Spot) → AllItems is
+    pub are_items : (is : ItemTrees Spot) → AllItems is
     are_items no_items = tt
     are_items (more_items i is) = (is_item i, are_items is)
 

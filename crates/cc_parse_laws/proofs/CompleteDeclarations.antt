@@ -12,9 +12,9 @@ use Rattle.cc_grammar.specs.Reading.{with_name, readers, inits_behind, inits, de
 use Rattle.cc_parse_laws.proofs.Spans.{Reads}
 use Rattle.cc_parse_laws.proofs.Steps.{reads_length}
 use Rattle.cc_parse_laws.proofs.Inner.{CompleteInner, Ends, EndsSpecs, EndsDeclarator, ReadsDeclarator}
-use Rattle.cc_parse_laws.proofs.Peeks.{after, skip_shorter, sign_other, sign_ends, sign_ends_specs, sign_ends_declarator}
+use Rattle.cc_parse_laws.proofs.Peeks.{after, skip_shorter, punct_other, punct_ends, punct_ends_specs, punct_ends_declarator}
 use Rattle.cc_parse_laws.proofs.Firsts.{first_specs}
-use Rattle.cc_parse_laws.proofs.Stands.{named_begins}
+use Rattle.cc_parse_laws.proofs.FirstTokens.{named_begins}
 use Rattle.cc_parse_laws.proofs.Pieces.{comes, only, got_specs}
 use Rattle.cc_parse_laws.proofs.CompleteValues.{given_again}
 
@@ -25,8 +25,8 @@ abbrev BehindInit : List Token → Type 0
 BehindInit ts = (next_is the_punct.Comma ts ≡ true) ⊎ (next_is the_punct.Semicolon ts ≡ true)
 
 behind_ends : (ts : List Token) → BehindInit ts → Ends 2 ts
-behind_ends ts (inl c) = sign_ends 2 the_punct.Comma ts (omega arith) c
-behind_ends ts (inr c) = sign_ends 2 the_punct.Semicolon ts (omega arith) c
+behind_ends ts (inl c) = punct_ends 2 the_punct.Comma ts (omega arith) c
+behind_ends ts (inr c) = punct_ends 2 the_punct.Semicolon ts (omega arith) c
 
 more_behind : (names : Names) (typedef : Bool) (is : List (InitTree Spot)) (d : ℕ) (ts r : List Token) → Reads (outlines.more_inits names typedef is) d ts r → next_is the_punct.Semicolon r ≡ true → BehindInit ts
 more_behind names typedef [] d ts r x e = inr (ap (next_is the_punct.Semicolon) x ∙ e)
@@ -38,14 +38,14 @@ pub record BehindDeclarator (ts : List Token) : Type 0 where
   pub no_brace : next_is the_punct.LeftBrace ts ≡ false
 
 behind_declarator : (ts : List Token) → BehindInit ts → BehindDeclarator ts
-behind_declarator ts (inl c) = record { ends = sign_ends_declarator the_punct.Comma ts refl refl refl c; no_brace = sign_other the_punct.LeftBrace the_punct.Comma ts refl c }
-behind_declarator ts (inr c) = record { ends = sign_ends_declarator the_punct.Semicolon ts refl refl refl c; no_brace = sign_other the_punct.LeftBrace the_punct.Semicolon ts refl c }
+behind_declarator ts (inl c) = record { ends = punct_ends_declarator the_punct.Comma ts refl refl refl c; no_brace = punct_other the_punct.LeftBrace the_punct.Comma ts refl c }
+behind_declarator ts (inr c) = record { ends = punct_ends_declarator the_punct.Semicolon ts refl refl refl c; no_brace = punct_other the_punct.LeftBrace the_punct.Semicolon ts refl c }
 
 given_behind : (names : Names) (v : Option (ValueTree Spot)) (d : ℕ) (ts r : List Token) → Reads (outlines.given names v) d ts r → BehindInit r → BehindDeclarator ts
 given_behind names None d ts r x b = subst BehindDeclarator (sym x) (behind_declarator r b)
 given_behind names (Some v) d ts r x b =
     let equal = comes the_punct.Equal None (after (outlines.given names (Some v))) d ts r x in
-    record { ends = sign_ends_declarator the_punct.Equal ts refl refl refl equal.is; no_brace = sign_other the_punct.LeftBrace the_punct.Equal ts refl equal.is }
+    record { ends = punct_ends_declarator the_punct.Equal ts refl refl refl equal.is; no_brace = punct_other the_punct.LeftBrace the_punct.Equal ts refl equal.is }
 
 -- a declarator and its initialiser, apart
 pub record Apart (names : Names) (typedef : Bool) (f : DeclTree Spot) (v : Option (ValueTree Spot)) (is : List (InitTree Spot)) (d : ℕ) (ts r : List Token) : Type 0 where
@@ -75,8 +75,8 @@ module _ (readers_complete : (names : Names) (d : ℕ) → CompleteInner names (
   no_more : (typedef : Bool) (f : DeclTree Spot) (v : Option (ValueTree Spot)) (names : Names) (d turns : ℕ) (ts m : List Token)
       → Reads (outlines.given (after_declarator typedef f names) v) d ts m → next_is the_punct.Semicolon m ≡ true → inits_behind d typedef (suc turns) names f ts ≡ Ok (init f v ∷ [], m)
   no_more typedef f v names d turns ts m g e =
-      let value = given_again readers_complete (after_declarator typedef f names) d v ts m g (sign_ends 2 the_punct.Semicolon m (omega arith) e) in
-      let no_comma : next_is the_punct.Comma m ≡ false = sign_other the_punct.Comma the_punct.Semicolon m refl e in
+      let value = given_again readers_complete (after_declarator typedef f names) d v ts m g (punct_ends 2 the_punct.Semicolon m (omega arith) e) in
+      let no_comma : next_is the_punct.Comma m ≡ false = punct_other the_punct.Comma the_punct.Semicolon m refl e in
       rw (value, no_comma) refl
 
   -- initialisers are read back where a semicolon follows
@@ -91,7 +91,7 @@ module _ (readers_complete : (names : Names) (d : ℕ) → CompleteInner names (
       let known = after_declarator typedef f names in
       let comma = comes the_punct.Comma None (after (outlines.more_inits known typedef (init g w ∷ is))) d m r x in
       let a = apart known typedef g w is d (skip m) r comma.then in
-      let value = given_again readers_complete known d v ts m y (sign_ends 2 the_punct.Comma m (omega arith) comma.is) in
+      let value = given_again readers_complete known d v ts m y (punct_ends 2 the_punct.Comma m (omega arith) comma.is) in
       let ends = (given_behind (after_declarator typedef g known) w d a.name_ends a.value_ends a.given (more_behind (after_declarator typedef g known) typedef is d a.value_ends r a.others e)).ends in
       let declares = (readers_complete known d).declarator with_name g (skip m) a.name_ends a.named a.declares ends in
       let shorter : length a.name_ends < turns = omega (arith, h, reads_length (outlines.given known v) d ts m y, skip_shorter the_punct.Comma m comma.is, apart_length known typedef g w is d (skip m) r a) in
@@ -115,7 +115,7 @@ module _ (readers_complete : (names : Names) (d : ℕ) → CompleteInner names (
   pub inits_begin : (names : Names) (typedef : Bool) (is : List (InitTree Spot)) (d : ℕ) (ts r : List Token) → Reads (outlines.within (outlines.inits names typedef is) (outlines.punct the_punct.Semicolon end)) d ts r → EndsSpecs names ts
   inits_begin names typedef [] d ts r x =
       let semicolon = comes the_punct.Semicolon None end d x.0 r x.3 in
-      subst (EndsSpecs names) (sym x.2) (sign_ends_specs names the_punct.Semicolon x.0 refl semicolon.is)
+      subst (EndsSpecs names) (sym x.2) (punct_ends_specs names the_punct.Semicolon x.0 refl semicolon.is)
   inits_begin names typedef (init f v ∷ is) d ts r x =
       let a = apart names typedef f v is d ts x.0 x.2 in
       let begins = named_begins names f d ts a.name_ends a.named a.declares in

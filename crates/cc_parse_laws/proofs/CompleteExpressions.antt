@@ -26,7 +26,7 @@ use Rattle.cc_grammar.specs.Outcomes.{and_then, take}
 use Rattle.cc_grammar.specs.Reading.{Inner, go_on, expression, arguments, id}
 use Rattle.cc_parse_laws.proofs.Spans.{Reads}
 use Rattle.cc_parse_laws.proofs.Steps.{next_token, reads_next, reads_take}
-use Rattle.cc_parse_laws.proofs.Peeks.{at_token, sign_ends}
+use Rattle.cc_parse_laws.proofs.Peeks.{at_token, punct_ends}
 use Rattle.cc_parse_laws.proofs.Firsts.{inside_sinks, op_most}
 use Rattle.cc_parse_laws.proofs.Edges.{edge, edge_above, edge_postfix, edge_least, op_least, ends_more}
 use Rattle.cc_parse_laws.proofs.Climbs.{Climbs, IsRead, bound, mapped, done, rest_is, climbed, ends_at, left_depth}
@@ -37,7 +37,7 @@ use Rattle.cc_parse_laws.proofs.Inner.{ReadsExpr, Ends, CompleteInner}
 
 -- ---- Tokens of operators
 
-tail_step : (op : StepOp) → tail_punct (step_punct op) ≡ goes_step op
+pub tail_step : (op : StepOp) → tail_punct (step_punct op) ≡ goes_step op
 tail_step the_step.Increment = refl
 tail_step the_step.Decrement = refl
 
@@ -59,12 +59,12 @@ tail_int int.Mul = refl
 tail_int int.Div = refl
 tail_int int.Rem = refl
 
-tail_binary : (op : BinaryOp) → tail_punct (binary_punct op) ≡ goes_binary op
+pub tail_binary : (op : BinaryOp) → tail_punct (binary_punct op) ≡ goes_binary op
 tail_binary the_binary.OrOr = refl
 tail_binary the_binary.AndAnd = refl
 tail_binary (the_binary.Int op) = tail_int op
 
-tail_assign : (op : AssignOp) → tail_punct (assign_punct op) ≡ goes_assign op
+pub tail_assign : (op : AssignOp) → tail_punct (assign_punct op) ≡ goes_assign op
 tail_assign the_assign.Plain = refl
 tail_assign the_assign.Mul = refl
 tail_assign the_assign.Div = refl
@@ -125,7 +125,7 @@ module _ (names : Names) (inner : Inner) (d : ℕ) (good : CompleteInner names i
       let q = t.after.0 in
       let t2 = next_token (Unit {0}) (kind.Punct the_punct.Colon) None last d q r t.after.3 in
       let colon = reads_next (Unit {0}) the_punct.Colon None last d q r t.after.3 in
-      let second : inner.expr 1 (skip m) ≡ Ok (a, q) = good.expr 1 a (skip m) q t.after.1 t.after.2 (sign_ends 1 the_punct.Colon q (omega arith) colon) in
+      let second : inner.expr 1 (skip m) ≡ Ok (a, q) = good.expr 1 a (skip m) q t.after.1 t.after.2 (punct_ends 1 the_punct.Colon q (omega arith) colon) in
       let third : inner.expr 3 (skip q) ≡ Ok (b, r) = good.expr 3 b (skip q) r t2.after.1 (subst (ReadsExpr names d b (skip q)) t2.after.3 t2.after.2) ends in
       behind the_punct.Question goes_question (Unit {0}) (Some n) right n least c (choice n c a b) ts m r rc y.2 y.3 refl t.at
       (omega (arith, edge_above 4 c (omega arith) (omega arith) y.1)) (omega (arith, l, y.1)) l y.1 (omega arith)
@@ -189,7 +189,7 @@ module _ (names : Names) (inner : Inner) (d : ℕ) (good : CompleteInner names i
       let t = next_token (Unit {0}) (kind.Punct the_punct.LeftBracket) (Some n) right d m r y.3 in
       let q = t.after.0 in
       let close_next = reads_next (Unit {0}) the_punct.RightBracket None end d q r t.after.3 in
-      let inside : inner.expr 1 (skip m) ≡ Ok (i, q) = good.expr 1 i (skip m) q t.after.1 t.after.2 (sign_ends 1 the_punct.RightBracket q (omega arith) close_next) in
+      let inside : inner.expr 1 (skip m) ≡ Ok (i, q) = good.expr 1 i (skip m) q t.after.1 t.after.2 (punct_ends 1 the_punct.RightBracket q (omega arith) close_next) in
       behind the_punct.LeftBracket goes_index (Unit {0}) (Some n) right n least a (index n a i) ts m r ra y.2 y.3 refl t.at
       (edge_postfix a y.1) (omega (arith, l, y.1)) l y.1 (omega arith)
       (bound (λ x us. and_then (take the_punct.RightBracket us) (λ z vs. done (index n a x) vs)) (inner.expr 1 (skip m)) i q inside
@@ -197,7 +197,7 @@ module _ (names : Names) (inner : Inner) (d : ℕ) (good : CompleteInner names i
 
   -- ---- All expressions
 
-  is_read : (e : ExprTree Spot) → IsRead names inner d e
+  pub is_read : (e : ExprTree Spot) → IsRead names inner d e
   is_read (name n x) = read_name names inner d good n x
   is_read (integer n v c) = read_integer names inner d good n v c
   is_read (character n v) = read_character names inner d good n v

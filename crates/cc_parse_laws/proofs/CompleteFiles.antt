@@ -9,12 +9,15 @@ use Rattle.cc_grammar.specs.Outlines as outlines
 use Rattle.cc_grammar.specs.Names.{Names, has_typedef, after_external}
 use Rattle.cc_grammar.specs.Classes.{spot}
 use Rattle.cc_grammar.specs.Reading.{with_name, readers, spot_or, external, ended, externals_by, reading}
+use Rattle.cc_grammar.specs.Orderly.{Orderly}
+use Rattle.cc_grammar.specs.Spells.{Spells}
+use Rattle.cc_grammar.specs.WellFormed.{WellFormed}
 use Rattle.cc_parse_laws.proofs.Spans.{Reads, spelled_reads}
 use Rattle.cc_parse_laws.proofs.Steps.{reads_length}
 use Rattle.cc_parse_laws.proofs.Inner.{CompleteInner, EndsDeclarator}
-use Rattle.cc_parse_laws.proofs.Peeks.{after, inside, sign_ends_declarator}
+use Rattle.cc_parse_laws.proofs.Peeks.{after, inside, punct_ends_declarator}
 use Rattle.cc_parse_laws.proofs.Firsts.{first_specs}
-use Rattle.cc_parse_laws.proofs.Stands.{named_begins}
+use Rattle.cc_parse_laws.proofs.FirstTokens.{named_begins}
 use Rattle.cc_parse_laws.proofs.Pieces.{only, comes, got_specs}
 use Rattle.cc_parse_laws.proofs.CompleteDeclarations.{apart, inits_begin, first_again, inits_again}
 use Rattle.cc_parse_laws.proofs.CompleteStatements.{body_again}
@@ -29,16 +32,16 @@ spot_of_named (array a f e) n m h at = sym at
 spot_of_named (function a f ps) n m h at = sym at
 spot_of_named (grouped a f) n m h at = sym at
 
-specs_begin : (ss : SpecTrees Spot) → outlines.HasSpecs ss → (n : Spot) × outlines.BeginAt ss n
+pub specs_begin : (ss : SpecTrees Spot) → outlines.HasSpecs ss → (n : Spot) × outlines.BeginAt ss n
 specs_begin no_specs h = absurd h
 specs_begin (more_specs s ss) h = (outlines.spec_spot s, refl)
 
 -- each has tokens
-external_size : (names : Names) (x : ExternalTree Spot) → 1 ≤ size (outlines.external names x)
+pub external_size : (names : Names) (x : ExternalTree Spot) → 1 ≤ size (outlines.external names x)
 external_size names (outer_declaration (declaration n ss is)) = omega arith
 external_size names (definition n ss f b) = omega (arith, block_size names b)
 
-not_ended : (ts r : List Token) → length r < length ts → ended ts ≡ false
+pub not_ended : (ts r : List Token) → length r < length ts → ended ts ≡ false
 not_ended [] r h = absurd (omega (arith, h))
 not_ended (t ∷ ts) r h = refl
 
@@ -79,7 +82,7 @@ module _ (readers_complete : (names : Names) (d : ℕ) → CompleteInner names (
       let begins = named_begins names f d x.0 y.0 y.1 y.2 in
       let z = only (outlines.block_of names b) d y.0 r y.3 in
       let inner = body_again names d b y.0 r (block_is_stmt readers_complete b) z in
-      let ends : EndsDeclarator y.0 = sign_ends_declarator the_punct.LeftBrace y.0 refl refl refl inner.0 in
+      let ends : EndsDeclarator y.0 = punct_ends_declarator the_punct.LeftBrace y.0 refl refl refl inner.0 in
       let specs = (readers_complete names d).specs ss first.0 ts x.0 first.1 x.2 (record { no_spec = begins.no_spec; no_brace = begins.no_brace }) in
       let declares = (readers_complete names d).declarator with_name f x.0 y.0 y.1 y.2 ends in
       rw (specs, begins.no_semicolon, declares, inner.0, spot_of_named f n (spot ts) y.1 at, inner.1) refl
@@ -105,11 +108,11 @@ module _ (readers_complete : (names : Names) (d : ℕ) → CompleteInner names (
   file_complete d ts f x = externals_again f [] d (suc (length ts)) ts x (omega arith)
 
   -- An orderly file is read from its spelling, at any depth that it keeps to.
-  pub spelled_file_is_read : (d : ℕ) (tokens : List Token) (f : List (ExternalTree Spot)) → outlines.Orderly f → depth (outlines.file f) ≤ d → outlines.Spells f tokens → reading d tokens ≡ Ok (f, [])
+  pub spelled_file_is_read : (d : ℕ) (tokens : List Token) (f : List (ExternalTree Spot)) → Orderly f → depth (outlines.file f) ≤ d → Spells f tokens → reading d tokens ≡ Ok (f, [])
   spelled_file_is_read d tokens f orderly shallow spelled =
       let s = spelled_reads (outlines.file f) d tokens [] orderly shallow spelled in
       file_complete d tokens f (subst (λ r. Reads (outlines.file f) d tokens r) (no_more s.rest s.others) s.reads)
 
   -- Each file of the grammar is read.
-  pub each_file_is_read : (tokens : List Token) (f : List (ExternalTree Spot)) → outlines.WellFormed tokens f → reading outlines.limit tokens ≡ Ok (f, [])
-  each_file_is_read tokens f w = spelled_file_is_read outlines.limit tokens f w.orderly w.shallow w.spelled
+  pub each_file_is_read : (d : ℕ) (tokens : List Token) (f : List (ExternalTree Spot)) → WellFormed d tokens f → reading d tokens ≡ Ok (f, [])
+  each_file_is_read d tokens f w = spelled_file_is_read d tokens f w.orderly w.shallow w.spelled

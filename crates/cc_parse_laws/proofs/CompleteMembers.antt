@@ -17,7 +17,7 @@ use Rattle.cc_parse_laws.proofs.Spans.{Reads}
 use Rattle.cc_parse_laws.proofs.Steps.{next_token, reads_next, branch_true, branch_false}
 use Rattle.cc_parse_laws.proofs.Lists.{Again, takes, separated_again, repeated_again, enclosed_again}
 use Rattle.cc_parse_laws.proofs.Depths.{named_is_written}
-use Rattle.cc_parse_laws.proofs.Peeks.{after, inside, at_token, sign_other, sign_ends, sign_ends_declarator}
+use Rattle.cc_parse_laws.proofs.Peeks.{after, inside, at_token, punct_other, punct_ends, punct_ends_declarator}
 use Rattle.cc_parse_laws.proofs.Firsts.{inside_sinks, first_specs}
 use Rattle.cc_parse_laws.proofs.FirstDeclarators.{first_declarator}
 use Rattle.cc_parse_laws.proofs.Climbs.{bound, mapped, done, rest_is, not_zero}
@@ -30,11 +30,11 @@ use Rattle.cc_parse_laws.proofs.Inner.{ReadsExpr, ReadsDeclarator, Ends, EndsSpe
 module _ (names : Names) (inner : Inner) (d : ℕ) (good : CompleteInner names inner d) where
   -- ---- Members
 
-  named_again : (f : DeclTree Spot) → Again (inner.declarator with_name) (listed.NamedSpan names d) EndsDeclarator f
+  pub named_again : (f : DeclTree Spot) → Again (inner.declarator with_name) (listed.NamedSpan names d) EndsDeclarator f
   named_again f ts r y ends = good.declarator with_name f ts r y.0 y.1 ends
 
   -- specifiers end where a declarator with a name comes
-  named_ends : (f : DeclTree Spot) (ts r : List Token) → outlines.is_named f ≡ true → ReadsDeclarator names d f ts r → EndsSpecs names ts
+  pub named_ends : (f : DeclTree Spot) (ts r : List Token) → outlines.is_named f ≡ true → ReadsDeclarator names d f ts r → EndsSpecs names ts
   named_ends f ts r e y =
       let first = first_declarator names f d ts r (named_is_written f e) (inside_sinks (outlines.is_written f) (outlines.declarator names f) d ts r y) in
       record { no_spec = first.no_spec; no_brace = first.no_brace }
@@ -42,7 +42,7 @@ module _ (names : Names) (inner : Inner) (d : ℕ) (good : CompleteInner names i
   abbrev line_behind : Spot → Parser (MemberTree Spot)
   line_behind at = inner.specs >>= (λ ss. separated (inner.declarator with_name) >>= (λ fs. take the_punct.Semicolon >> pure (members at ss (gathered_declarators fs))))
 
-  line_again : (m : MemberTree Spot) → Again (member_line names inner (suc d)) (listed.LineSpan names d) (λ us. Unit {0}) m
+  pub line_again : (m : MemberTree Spot) → Again (member_line names inner (suc d)) (listed.LineSpan names d) (λ us. Unit {0}) m
   line_again (members n ss no_declarators) ts r y f = let z = y.2.3 in absurd z.1
   line_again (members n ss (more_declarators g gs)) ts r y f =
       let last = y.0 in
@@ -52,8 +52,8 @@ module _ (names : Names) (inner : Inner) (d : ℕ) (good : CompleteInner names i
       let semicolon = reads_next (Unit {0}) the_punct.Semicolon None end d c last z.3 in
       let first : inner.specs ts ≡ Ok (ss, q) = good.specs ss n ts q y.1 y.2.2 (named_ends g q z.2.0 z.2.1 z.2.2) in
       let list : separated (inner.declarator with_name) q ≡ Ok (g ∷ listed.declarators gs, c) =
-      separated_again (inner.declarator with_name) (listed.NamedSpan names d) EndsDeclarator named_again (listed.named_shorter names d) (λ us. sign_ends_declarator the_punct.Comma us refl refl refl)
-      (g ∷ listed.declarators gs) q c (listed.named_list names d g gs q c z.2) (sign_other the_punct.Comma the_punct.Semicolon c refl semicolon) (sign_ends_declarator the_punct.Semicolon c refl refl refl semicolon) in
+      separated_again (inner.declarator with_name) (listed.NamedSpan names d) EndsDeclarator named_again (listed.named_shorter names d) (λ us. punct_ends_declarator the_punct.Comma us refl refl refl)
+      (g ∷ listed.declarators gs) q c (listed.named_list names d g gs q c z.2) (punct_other the_punct.Comma the_punct.Semicolon c refl semicolon) (punct_ends_declarator the_punct.Semicolon c refl refl refl semicolon) in
       let stands = first_specs names ss n d ts q y.1 y.2.2 in
       bound (λ us vs. and_then (separated (inner.declarator with_name) vs) (λ fs ws. and_then (take the_punct.Semicolon ws) (λ u xs. done (members (spot ts) us (gathered_declarators fs)) xs))) (inner.specs ts) ss q first
       ∙ bound (λ fs ws. and_then (take the_punct.Semicolon ws) (λ u xs. done (members (spot ts) ss (gathered_declarators fs)) xs)) (separated (inner.declarator with_name) q) (g ∷ listed.declarators gs) c list
@@ -88,7 +88,7 @@ module _ (names : Names) (inner : Inner) (d : ℕ) (good : CompleteInner names i
   -- ---- Constants
 
   -- what follows a constant
-  abbrev Valued : List Token → Type 0
+  abbrev pub Valued : List Token → Type 0
   Valued us = Ends 3 us × (next_is the_punct.Equal us ≡ false)
 
   value_again : (e : ExprOption Spot) (ts r : List Token) → Reads (outlines.constant_value names e) d ts r → Valued r → constant_value names inner (suc d) ts ≡ Ok (e, r)
@@ -100,7 +100,7 @@ module _ (names : Names) (inner : Inner) (d : ℕ) (good : CompleteInner names i
       let read : inner.expr 3 (skip ts) ≡ Ok (e, r) = good.expr 3 e (skip ts) r t.after.1 (subst (ReadsExpr names d e (skip ts)) t.after.3 t.after.2) f.0 in
       branch_true (next_is the_punct.Equal ts) (skipping (an_expr <$> inner.expr 3)) (pure no_expr) ts (reads_next (Unit {0}) the_punct.Equal None rest d ts r y) ∙ mapped an_expr (inner.expr 3 (skip ts)) e r read
 
-  one_again : (c : ConstantTree Spot) → Again (one_constant names inner (suc d)) (listed.ConstantSpan names d) Valued c
+  pub one_again : (c : ConstantTree Spot) → Again (one_constant names inner (suc d)) (listed.ConstantSpan names d) Valued c
   one_again (constant n x e) ts r y f =
       let rest = after (outlines.constant_of names (constant n x e)) in
       let t = next_token (is_type names x ≡ false) (kind.Identifier x) (Some n) rest d ts r y in
@@ -109,12 +109,12 @@ module _ (names : Names) (inner : Inner) (d : ℕ) (good : CompleteInner names i
       ∙ mapped (constant (spot ts) x) (constant_value names inner (suc d) (skip ts)) e r (value_again e (skip ts) r here f)
       ∙ ap (λ m. done (constant m x e) r) t.at
 
-  one_opens : (c : ConstantTree Spot) (ts r : List Token) → Reads (outlines.constant_of names c) d ts r → next_is the_punct.RightBrace ts ≡ false
+  pub one_opens : (c : ConstantTree Spot) (ts r : List Token) → Reads (outlines.constant_of names c) d ts r → next_is the_punct.RightBrace ts ≡ false
   one_opens (constant n x e) ts r y = at_token (next_is the_punct.RightBrace) (is_punct the_punct.RightBrace) (λ t us. refl) (is_type names x ≡ false) (kind.Identifier x) (Some n) (after (outlines.constant_of names (constant n x e))) d ts r y
 
   pub constants_again : ConstantsAgain names inner (suc d)
   constants_again c cs trailing ts r y =
       branch_false (suc d == 0) refuse (enclosed (one_constant names inner (suc d))) ts (not_zero d)
       ∙ enclosed_again (one_constant names inner (suc d)) (listed.ConstantSpan names d) Valued one_again (listed.constant_shorter names d)
-      (λ us e. (sign_ends 3 the_punct.Comma us (omega arith) e, sign_other the_punct.Equal the_punct.Comma us refl e)) (λ us e. (sign_ends 3 the_punct.RightBrace us (omega arith) e, sign_other the_punct.Equal the_punct.RightBrace us refl e)) one_opens
+      (λ us e. (punct_ends 3 the_punct.Comma us (omega arith) e, punct_other the_punct.Equal the_punct.Comma us refl e)) (λ us e. (punct_ends 3 the_punct.RightBrace us (omega arith) e, punct_other the_punct.Equal the_punct.RightBrace us refl e)) one_opens
       (c ∷ listed.constants cs) trailing ts r (listed.constant_list names d c cs trailing ts r y)

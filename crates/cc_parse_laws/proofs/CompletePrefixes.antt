@@ -1,7 +1,7 @@
 -- Expressions that begin with a token of their own are read back.
 use Rattle.std.proofs.Common.{◌≡◌, refl, ℕ, ℤ, zero, suc, Bool, true, false, List, [], ◌∷◌, Option, Some, None, Ok, arith, ap, ◌∙◌, subst}
 use Rattle.std.specs.Prelude.{◌&&◌, ◌==◌, nat_le}
-use Rattle.std.proofs.lemmas.Bool.{le-leb, ne_eqb}
+use Rattle.std.proofs.lemmas.Bool.{le-leb, ne_eqb, and_left, and_right, and_from}
 use Rattle.cc_arith.specs.declared.kind.IntKind.{IntKind}
 use Rattle.cc_arith.specs.declared.unary_operator.IntUnary.TheVariants as int_unary
 use Rattle.cc_base.specs.declared.place.Spot.{Spot}
@@ -27,8 +27,8 @@ use Rattle.cc_grammar.specs.Reading.{Inner, without_name, prefix, where_next, sk
 use Rattle.cc_parse_laws.proofs.Spans.{Reads}
 use Rattle.cc_parse_laws.proofs.Steps.{next_token, reads_next, reads_take, branch_true, branch_false, reads_length}
 use Rattle.cc_parse_laws.proofs.Lists.{Span, Again, Following, Shorter, repeated_again}
-use Rattle.cc_parse_laws.proofs.Peeks.{after, at_token, sign_ends}
-use Rattle.cc_parse_laws.proofs.Firsts.{inside_sinks, and_left, and_right, and_both, first_operand, no_type_ahead}
+use Rattle.cc_parse_laws.proofs.Peeks.{after, at_token, punct_ends}
+use Rattle.cc_parse_laws.proofs.Firsts.{inside_sinks, first_operand, no_type_ahead}
 use Rattle.cc_parse_laws.proofs.Edges.{ends_more, ends_prefix}
 use Rattle.cc_parse_laws.proofs.Climbs.{Climbs, IsRead, bound, mapped, done, rest_is, begun}
 use Rattle.cc_parse_laws.proofs.CompleteTypes.{id_again, type_again, first_type}
@@ -36,7 +36,7 @@ use Rattle.cc_parse_laws.proofs.Inner.{ReadsExpr, CompleteInner}
 
 -- ---- Tokens of operators
 
-start_unary : (op : UnaryOp) → start_punct (unary_punct op) ≡ begins_unary op
+pub start_unary : (op : UnaryOp) → start_punct (unary_punct op) ≡ begins_unary op
 start_unary the_unary.Address = refl
 start_unary the_unary.Deref = refl
 start_unary (the_unary.Int int_unary.Plus) = refl
@@ -44,7 +44,7 @@ start_unary (the_unary.Int int_unary.Minus) = refl
 start_unary (the_unary.Int int_unary.Invert) = refl
 start_unary (the_unary.Int int_unary.Not) = refl
 
-start_step : (op : StepOp) → start_punct (step_punct op) ≡ begins_step op
+pub start_step : (op : StepOp) → start_punct (step_punct op) ≡ begins_step op
 start_step the_step.Increment = refl
 start_step the_step.Decrement = refl
 
@@ -56,7 +56,7 @@ close q x d m r y =
     let t = next_token (Unit {0}) (kind.Punct q) None end d m r y in
     ap (λ z. and_then z (λ w vs. done x vs)) (reads_take (Unit {0}) q None end d m r y) ∙ rest_is x (skip m) r t.after
 
-not_one : (names : Names) (e : ExprTree Spot) (d : ℕ) (ts r : List Token) → ReadsExpr names d e ts r → (suc d == 1) ≡ false
+pub not_one : (names : Names) (e : ExprTree Spot) (d : ℕ) (ts r : List Token) → ReadsExpr names d e ts r → (suc d == 1) ≡ false
 not_one names e zero ts r y = absurd y
 not_one names e (suc d) ts r y = ne_eqb (suc (suc d)) 1 (λ z. omega (arith, z))
 
@@ -140,7 +140,7 @@ module _ (names : Names) (inner : Inner) (d : ℕ) (good : CompleteInner names i
       let t = next_token (Unit {0}) (kind.Punct the_punct.LeftParen) (Some n) (after (outlines.expr names (paren n e))) d ts r y in
       let m = t.after.0 in
       let close_next = reads_next (Unit {0}) the_punct.RightParen None end d m r t.after.3 in
-      let inside : inner.expr 1 (skip ts) ≡ Ok (e, m) = good.expr 1 e (skip ts) m t.after.1 t.after.2 (sign_ends 1 the_punct.RightParen m (omega arith) close_next) in
+      let inside : inner.expr 1 (skip ts) ≡ Ok (e, m) = good.expr 1 e (skip ts) m t.after.1 t.after.2 (punct_ends 1 the_punct.RightParen m (omega arith) close_next) in
       let first = first_operand names e d (skip ts) m t.after.2 in
       begins least (kind.Punct the_punct.LeftParen) n (Unit {0}) (after (outlines.expr names (paren n e))) ts r begins_paren (paren n e) y refl
       (branch_false (starts_spec names (skip ts) && nat_le least 14) (cast_behind n) (paren_behind n) (skip ts) (and_left (starts_spec names (skip ts)) (nat_le least 14) first.no_spec)
@@ -169,7 +169,7 @@ module _ (names : Names) (inner : Inner) (d : ℕ) (good : CompleteInner names i
       let inside : inner.expr 14 (skip m) ≡ Ok (e, r) = good.expr 14 e (skip m) r c2.after.1 (subst (ReadsExpr names d e (skip m)) c2.after.3 c2.after.2) (ends_prefix r ends) in
       let first : starts_spec names (skip ts) ≡ true = first_type names inner d good t (skip ts) m c.after.2 in
       begins least (kind.Punct the_punct.LeftParen) n (Unit {0}) (after (outlines.expr names (cast n t e))) ts r begins_paren (cast n t e) y refl
-      (branch_true (starts_spec names (skip ts) && nat_le least 14) (cast_behind n) (paren_behind n) (skip ts) (and_both (starts_spec names (skip ts)) (nat_le least 14) first (le-leb _ _ l))
+      (branch_true (starts_spec names (skip ts) && nat_le least 14) (cast_behind n) (paren_behind n) (skip ts) (and_from (starts_spec names (skip ts)) (nat_le least 14) first (le-leb _ _ l))
       ∙ bound (λ x us. and_then (take the_punct.RightParen us) (λ z vs. and_then (inner.expr 14 vs) (λ f ws. done (cast n x f) ws))) (typed names inner (suc d) without_name (skip ts)) t m type
       ∙ ap (λ z. and_then z (λ w vs. and_then (inner.expr 14 vs) (λ f ws. done (cast n t f) ws))) (reads_take (Unit {0}) the_punct.RightParen None (outlines.operand 14 e (outlines.expr names e) end) d m r c.after.3)
       ∙ mapped (cast n t) (inner.expr 14 (skip m)) e r inside)
@@ -201,6 +201,6 @@ module _ (names : Names) (inner : Inner) (d : ℕ) (good : CompleteInner names i
       let first : starts_spec names (skip (skip ts)) ≡ true = first_type names inner d good t (skip (skip ts)) m c2.after.2 in
       begins least (kind.Keyword the_keyword.Sizeof) n (Unit {0}) within ts r begins_sizeof (size_type n t) y refl
       (branch_true (next_is the_punct.LeftParen (skip ts) && starts_spec names (skip (skip ts))) (size_type_behind n) (size_expr_behind n) (skip ts)
-      (and_both (next_is the_punct.LeftParen (skip ts)) (starts_spec names (skip (skip ts))) (reads_next (Unit {0}) the_punct.LeftParen None (after within) d (skip ts) r c.after) first)
+      (and_from (next_is the_punct.LeftParen (skip ts)) (starts_spec names (skip (skip ts))) (reads_next (Unit {0}) the_punct.LeftParen None (after within) d (skip ts) r c.after) first)
       ∙ bound (λ x us. and_then (take the_punct.RightParen us) (λ z vs. done (size_type n x) vs)) (typed names inner (suc d) without_name (skip (skip ts))) t m type
       ∙ close the_punct.RightParen (size_type n t) d m r c2.after.3)

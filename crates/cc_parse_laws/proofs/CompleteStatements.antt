@@ -15,10 +15,10 @@ use Rattle.cc_grammar.specs.Outcomes.{Parser}
 use Rattle.cc_grammar.specs.Reading.{readers, body, clause_until, start_clause, stmt}
 use Rattle.cc_parse_laws.proofs.Spans.{Reads}
 use Rattle.cc_parse_laws.proofs.Inner.{CompleteInner}
-use Rattle.cc_parse_laws.proofs.Peeks.{after, inside, sign_spec, sign_ends}
+use Rattle.cc_parse_laws.proofs.Peeks.{after, inside, punct_spec, punct_ends}
 use Rattle.cc_parse_laws.proofs.Firsts.{inside_sinks, first_operand, opens_not, first_specs}
-use Rattle.cc_parse_laws.proofs.Nexts.{sign_stmt, key_other, key_stmt, expr_other}
-use Rattle.cc_parse_laws.proofs.Stands.{expr_stands}
+use Rattle.cc_parse_laws.proofs.Nexts.{punct_stmt, keyword_other, keyword_stmt, expr_other}
+use Rattle.cc_parse_laws.proofs.FirstTokens.{expr_stands}
 use Rattle.cc_parse_laws.proofs.Pieces.{Got, only, only_counted, at_depth, comes, comes_keyword, got_expr, got_condition}
 use Rattle.cc_parse_laws.proofs.CompleteDeclarations.{declaration_again}
 
@@ -31,19 +31,19 @@ IsStmt s = (names : Names) (d : ℕ) (ts r : List Token) → Reads (outlines.stm
 pub empty_again : (names : Names) (d : ℕ) (n : Spot) (ts r : List Token) → Reads (inside (outlines.stmt names (empty n))) d ts r → stmt (suc d) names ts ≡ Ok (empty n, r)
 empty_again names d n ts r x =
     let semicolon = comes the_punct.Semicolon (Some n) end d ts r x in
-    rw (sign_stmt the_punct.Semicolon ts semicolon.is, semicolon.at, semicolon.then) refl
+    rw (punct_stmt the_punct.Semicolon ts semicolon.is, semicolon.at, semicolon.then) refl
 
 pub break_again : (names : Names) (d : ℕ) (n : Spot) (ts r : List Token) → Reads (inside (outlines.stmt names (break n))) d ts r → stmt (suc d) names ts ≡ Ok (break n, r)
 break_again names d n ts r x =
     let word = comes_keyword the_keyword.Break (Some n) (Unit {0}) (after (inside (outlines.stmt names (break n)))) d ts r x in
     let semicolon = comes the_punct.Semicolon None end d (skip ts) r word.then in
-    rw (key_stmt the_keyword.Break ts word.is, word.at, semicolon.taken, semicolon.then) refl
+    rw (keyword_stmt the_keyword.Break ts word.is, word.at, semicolon.taken, semicolon.then) refl
 
 pub continue_again : (names : Names) (d : ℕ) (n : Spot) (ts r : List Token) → Reads (inside (outlines.stmt names (continue n))) d ts r → stmt (suc d) names ts ≡ Ok (continue n, r)
 continue_again names d n ts r x =
     let word = comes_keyword the_keyword.Continue (Some n) (Unit {0}) (after (inside (outlines.stmt names (continue n)))) d ts r x in
     let semicolon = comes the_punct.Semicolon None end d (skip ts) r word.then in
-    rw (key_stmt the_keyword.Continue ts word.is, word.at, semicolon.taken, semicolon.then) refl
+    rw (keyword_stmt the_keyword.Continue ts word.is, word.at, semicolon.taken, semicolon.then) refl
 
 -- a block behind `switch (..)`, or the body of a function
 pub body_again : (names : Names) (d : ℕ) (b : BlockTree Spot) (ts r : List Token) → IsStmt (compound b) → Reads (outlines.block_of names b) d ts r → (next_is the_punct.LeftBrace ts ≡ true) × (body (stmt d) d names ts ≡ Ok (b, r))
@@ -65,7 +65,7 @@ module _ (readers_complete : (names : Names) (d : ℕ) → CompleteInner names (
       let y = only_counted (1 ≤ level e) (outlines.expr names e) d ts x.0 x.2 in
       let there = comes s None i d x.0 r x.3 in
       let other : next_is s ts ≡ false = opens_not names s ts none (first_operand names e d ts x.0 y.1) in
-      let read : (readers names d).expr 1 ts ≡ Ok (e, x.0) = (readers_complete names d).expr 1 e ts x.0 y.0 y.1 (sign_ends 1 s x.0 h there.is) in
+      let read : (readers names d).expr 1 ts ≡ Ok (e, x.0) = (readers_complete names d).expr 1 e ts x.0 y.0 y.1 (punct_ends 1 s x.0 h there.is) in
       record { rest = x.0; reads = rw (other, read) refl; then = x.3 }
 
   start_declaration_again : (inner : Names → Parser (StmtTree Spot)) (names : Names) (d : ℕ) (a : DeclarationTree Spot) (ts r : List Token) → outlines.declaration_spot a → Reads (outlines.declaration_of names a) d ts r
@@ -84,7 +84,7 @@ module _ (readers_complete : (names : Names) (d : ℕ) → CompleteInner names (
       rw (begins.no_spec, opens_not names the_punct.Semicolon ts refl begins, read.reads, semicolon.taken, semicolon.then) refl
   start_again inner names d no_start ts r x =
       let semicolon = comes the_punct.Semicolon None end d ts r x in
-      rw (sign_spec names the_punct.Semicolon ts semicolon.is, semicolon.is, semicolon.then) refl
+      rw (punct_spec names the_punct.Semicolon ts semicolon.is, semicolon.is, semicolon.then) refl
 
   -- ---- Statements with expressions
 
@@ -100,7 +100,7 @@ module _ (readers_complete : (names : Names) (d : ℕ) → CompleteInner names (
       let word = comes_keyword the_keyword.Return (Some n) (Unit {0}) (after (inside (outlines.stmt names (return n c)))) d ts r x in
       let read = got_clause (stmt d) names d c the_punct.Semicolon end (skip ts) r (omega arith) refl word.then in
       let semicolon = comes the_punct.Semicolon None end d read.rest r read.then in
-      rw (key_stmt the_keyword.Return ts word.is, word.at, read.reads, semicolon.taken, semicolon.then) refl
+      rw (keyword_stmt the_keyword.Return ts word.is, word.at, read.reads, semicolon.taken, semicolon.then) refl
 
   -- ---- Statements with statements
 
@@ -110,7 +110,7 @@ module _ (readers_complete : (names : Names) (d : ℕ) → CompleteInner names (
       let word = comes_keyword the_keyword.If (Some n) (Unit {0}) (after (inside (outlines.stmt names (if_then n c s)))) d ts r x in
       let test = got_condition readers_complete (stmt d) names d c (outlines.within (outlines.stmt names s) end) (skip ts) r word.then in
       let inner = again names d test.rest r (only (outlines.stmt names s) d test.rest r test.then) (λ _. no_else) in
-      rw (key_stmt the_keyword.If ts word.is, word.at, test.reads, inner, no_else) refl
+      rw (keyword_stmt the_keyword.If ts word.is, word.at, test.reads, inner, no_else) refl
 
   pub if_else_again : (names : Names) (d : ℕ) (n : Spot) (c : ExprTree Spot) (s t : StmtTree Spot) (ts r : List Token) → IsStmt s → IsStmt t → (outlines.is_open t ≡ true → next_is_keyword the_keyword.Else r ≡ false)
       → Reads (inside (outlines.stmt names (if_else n c s t))) d ts r → stmt (suc d) names ts ≡ Ok (if_else n c s t, r)
@@ -121,7 +121,7 @@ module _ (readers_complete : (names : Names) (d : ℕ) → CompleteInner names (
       let other = comes_keyword the_keyword.Else None (outlines.is_open s ≡ false) (outlines.within (outlines.stmt (after_stmt s names) t) end) d y.0 r y.3 in
       let first = again_s names d test.rest y.0 y.2 (λ yes. let no_more : outlines.is_open s ≡ false = other.holds in absurd cc) in
       let second = again_t (after_stmt s names) d (skip y.0) r (only (outlines.stmt (after_stmt s names) t) d (skip y.0) r other.then) ends in
-      rw (key_stmt the_keyword.If ts word.is, word.at, test.reads, first, other.is, second) refl
+      rw (keyword_stmt the_keyword.If ts word.is, word.at, test.reads, first, other.is, second) refl
 
   pub switch_again : (names : Names) (d : ℕ) (n : Spot) (e : ExprTree Spot) (b : BlockTree Spot) (ts r : List Token) → IsStmt (compound b)
       → Reads (inside (outlines.stmt names (switch n e b))) d ts r → stmt (suc d) names ts ≡ Ok (switch n e b, r)
@@ -129,7 +129,7 @@ module _ (readers_complete : (names : Names) (d : ℕ) → CompleteInner names (
       let word = comes_keyword the_keyword.Switch (Some n) (Unit {0}) (after (inside (outlines.stmt names (switch n e b)))) d ts r x in
       let test = got_condition readers_complete (stmt d) names d e (outlines.within (outlines.block_of names b) end) (skip ts) r word.then in
       let inner = (body_again names d b test.rest r again (only (outlines.block_of names b) d test.rest r test.then)).1 in
-      rw (key_stmt the_keyword.Switch ts word.is, word.at, test.reads, inner) refl
+      rw (keyword_stmt the_keyword.Switch ts word.is, word.at, test.reads, inner) refl
 
   pub while_again : (names : Names) (d : ℕ) (n : Spot) (c : ExprTree Spot) (s : StmtTree Spot) (ts r : List Token) → IsStmt s → (outlines.is_open s ≡ true → next_is_keyword the_keyword.Else r ≡ false)
       → Reads (inside (outlines.stmt names (while_loop n c s))) d ts r → stmt (suc d) names ts ≡ Ok (while_loop n c s, r)
@@ -137,7 +137,7 @@ module _ (readers_complete : (names : Names) (d : ℕ) → CompleteInner names (
       let word = comes_keyword the_keyword.While (Some n) (Unit {0}) (after (inside (outlines.stmt names (while_loop n c s)))) d ts r x in
       let test = got_condition readers_complete (stmt d) names d c (outlines.within (outlines.stmt names s) end) (skip ts) r word.then in
       let inner = again names d test.rest r (only (outlines.stmt names s) d test.rest r test.then) ends in
-      rw (key_stmt the_keyword.While ts word.is, word.at, test.reads, inner) refl
+      rw (keyword_stmt the_keyword.While ts word.is, word.at, test.reads, inner) refl
 
   pub do_again : (names : Names) (d : ℕ) (n : Spot) (s : StmtTree Spot) (c : ExprTree Spot) (ts r : List Token) → IsStmt s
       → Reads (inside (outlines.stmt names (do_loop n s c))) d ts r → stmt (suc d) names ts ≡ Ok (do_loop n s c, r)
@@ -145,10 +145,10 @@ module _ (readers_complete : (names : Names) (d : ℕ) → CompleteInner names (
       let word = comes_keyword the_keyword.Do (Some n) (Unit {0}) (after (inside (outlines.stmt names (do_loop n s c)))) d ts r x in
       let y = word.then in
       let loop = comes_keyword the_keyword.While None (Unit {0}) (after (after (after (inside (outlines.stmt names (do_loop n s c)))))) d y.0 r y.3 in
-      let inner = again names d (skip ts) y.0 y.2 (λ _. key_other the_keyword.Else the_keyword.While y.0 refl loop.is) in
+      let inner = again names d (skip ts) y.0 y.2 (λ _. keyword_other the_keyword.Else the_keyword.While y.0 refl loop.is) in
       let test = got_condition readers_complete (stmt d) (after_stmt s names) d c (outlines.punct the_punct.Semicolon end) (skip y.0) r loop.then in
       let semicolon = comes the_punct.Semicolon None end d test.rest r test.then in
-      rw (key_stmt the_keyword.Do ts word.is, word.at, inner, loop.taken, test.reads, semicolon.taken, semicolon.then) refl
+      rw (keyword_stmt the_keyword.Do ts word.is, word.at, inner, loop.taken, test.reads, semicolon.taken, semicolon.then) refl
 
   pub for_again : (names : Names) (d : ℕ) (n : Spot) (a : StartTree Spot) (test each : Option (ExprTree Spot)) (s : StmtTree Spot) (ts r : List Token) → IsStmt s → (outlines.is_open s ≡ true → next_is_keyword the_keyword.Else r ≡ false)
       → Reads (inside (outlines.stmt names (for_loop n a test each s))) d ts r → stmt (suc d) names ts ≡ Ok (for_loop n a test each s, r)
@@ -164,4 +164,4 @@ module _ (readers_complete : (names : Names) (d : ℕ) → CompleteInner names (
       let third = got_clause (stmt d) known d each the_punct.RightParen (outlines.within (outlines.stmt known s) end) (skip second.rest) r (omega arith) refl semicolon.then in
       let close = comes the_punct.RightParen None (outlines.within (outlines.stmt known s) end) d third.rest r third.then in
       let inner = again known d (skip third.rest) r (only (outlines.stmt known s) d (skip third.rest) r close.then) ends in
-      rw (key_stmt the_keyword.For ts word.is, word.at, paren.taken, first, second.reads, semicolon.taken, third.reads, close.taken, inner) refl
+      rw (keyword_stmt the_keyword.For ts word.is, word.at, paren.taken, first, second.reads, semicolon.taken, third.reads, close.taken, inner) refl

@@ -14,7 +14,7 @@ use Rattle.cc_grammar.specs.Reading.{Inner, Mode, without_name, with_or_without,
 use Rattle.cc_parse_laws.proofs.Spans.{Reads}
 use Rattle.cc_parse_laws.proofs.Steps.{next_token, branch_true, branch_false}
 use Rattle.cc_parse_laws.proofs.Lists.{Again, takes, separated_again}
-use Rattle.cc_parse_laws.proofs.Peeks.{at_token, sign_other, sign_ends, sign_ends_specs, sign_ends_declarator}
+use Rattle.cc_parse_laws.proofs.Peeks.{at_token, punct_other, punct_ends, punct_ends_specs, punct_ends_declarator}
 use Rattle.cc_parse_laws.proofs.Firsts.{first_operand, first_specs, opens_not, spec_not}
 use Rattle.cc_parse_laws.proofs.FirstDeclarators.{declarator_specs}
 use Rattle.cc_parse_laws.proofs.Climbs.{bound, mapped, done}
@@ -50,13 +50,13 @@ module _ (names : Names) (inner : Inner) (d : ℕ) (good : CompleteInner names i
   abbrev pub Parted : List Token → Type 0
   Parted r = EndsSpecs names r × EndsDeclarator r
 
-  parted_comma : (ts : List Token) → next_is the_punct.Comma ts ≡ true → Parted ts
-  parted_comma ts e = (sign_ends_specs names the_punct.Comma ts refl e, sign_ends_declarator the_punct.Comma ts refl refl refl e)
+  pub parted_comma : (ts : List Token) → next_is the_punct.Comma ts ≡ true → Parted ts
+  parted_comma ts e = (punct_ends_specs names the_punct.Comma ts refl e, punct_ends_declarator the_punct.Comma ts refl refl refl e)
 
   parted_close : (ts : List Token) → next_is the_punct.RightParen ts ≡ true → Parted ts
-  parted_close ts e = (sign_ends_specs names the_punct.RightParen ts refl e, sign_ends_declarator the_punct.RightParen ts refl refl refl e)
+  parted_close ts e = (punct_ends_specs names the_punct.RightParen ts refl e, punct_ends_declarator the_punct.RightParen ts refl refl refl e)
 
-  parameter_again : (t : TypeTree Spot) → Again (typed names inner (suc d) with_or_without) (listed.ParameterSpan names d) Parted t
+  pub parameter_again : (t : TypeTree Spot) → Again (typed names inner (suc d) with_or_without) (listed.ParameterSpan names d) Parted t
   parameter_again (type_name n ss f) ts r y ends =
       typed_again with_or_without n ss f ts y.2.0 r y.1 y.2.2 tt (subst (ReadsDeclarator names d f y.2.0) (y.2.3.3 ∙ y.3) y.2.3.2) ends.0 ends.1
 
@@ -70,7 +70,7 @@ module _ (names : Names) (inner : Inner) (d : ℕ) (good : CompleteInner names i
   parameters_again (more_types u us) ts m y c =
       let list : separated (typed names inner (suc d) with_or_without) ts ≡ Ok (u ∷ listed.types us, m) =
       separated_again (typed names inner (suc d) with_or_without) (listed.ParameterSpan names d) Parted parameter_again (listed.parameter_shorter names d) parted_comma
-      (u ∷ listed.types us) ts m (listed.parameter_list names d u us ts m y) (sign_other the_punct.Comma the_punct.RightParen m refl c) (parted_close m c) in
+      (u ∷ listed.types us) ts m (listed.parameter_list names d u us ts m y) (punct_other the_punct.Comma the_punct.RightParen m refl c) (parted_close m c) in
       branch_false (next_is the_punct.RightParen ts) (skipping (pure [])) (closed (separated (typed names inner (suc d) with_or_without))) ts (spec_not names the_punct.RightParen ts (first_parameter u ts y.0 y.2))
       ∙ closed_again (separated (typed names inner (suc d) with_or_without)) (u ∷ listed.types us) ts m list c
 
@@ -83,7 +83,7 @@ module _ (names : Names) (inner : Inner) (d : ℕ) (good : CompleteInner names i
   pub first_type : (t : TypeTree Spot) (ts r : List Token) → Reads (outlines.type_of names t) d ts r → starts_spec names ts ≡ true
   first_type (type_name n ss f) ts r y = let x = first_specs names ss n d ts y.2.0 y.1 y.2.2 in x.0
 
-  argument_again : (e : ExprTree Spot) → Again (inner.expr 2) (listed.ArgumentSpan names d) (Ends 2) e
+  pub argument_again : (e : ExprTree Spot) → Again (inner.expr 2) (listed.ArgumentSpan names d) (Ends 2) e
   argument_again e ts r y ends = good.expr 2 e ts r y.0 y.1 ends
 
   pub arguments_again : (es : ExprTrees Spot) (ts m : List Token) → Reads (outlines.arguments names es) d ts m → next_is the_punct.RightParen m ≡ true → arguments names inner (suc d) ts ≡ Ok (listed.exprs es, skip m)
@@ -92,7 +92,7 @@ module _ (names : Names) (inner : Inner) (d : ℕ) (good : CompleteInner names i
       ∙ ap (λ us. done [] (skip us)) y
   arguments_again (more_exprs e es) ts m y c =
       let list : separated (inner.expr 2) ts ≡ Ok (e ∷ listed.exprs es, m) =
-      separated_again (inner.expr 2) (listed.ArgumentSpan names d) (Ends 2) argument_again (listed.argument_shorter names d) (λ us. sign_ends 2 the_punct.Comma us (omega arith))
-      (e ∷ listed.exprs es) ts m (listed.argument_list names d e es ts m y) (sign_other the_punct.Comma the_punct.RightParen m refl c) (sign_ends 2 the_punct.RightParen m (omega arith) c) in
+      separated_again (inner.expr 2) (listed.ArgumentSpan names d) (Ends 2) argument_again (listed.argument_shorter names d) (λ us. punct_ends 2 the_punct.Comma us (omega arith))
+      (e ∷ listed.exprs es) ts m (listed.argument_list names d e es ts m y) (punct_other the_punct.Comma the_punct.RightParen m refl c) (punct_ends 2 the_punct.RightParen m (omega arith) c) in
       branch_false (next_is the_punct.RightParen ts) (skipping (pure [])) (closed (separated (inner.expr 2))) ts (opens_not names the_punct.RightParen ts refl (first_operand names e d ts y.0 y.2))
       ∙ closed_again (separated (inner.expr 2)) (e ∷ listed.exprs es) ts m list c

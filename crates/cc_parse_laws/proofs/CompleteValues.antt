@@ -15,7 +15,7 @@ use Rattle.cc_parse_laws.proofs.Spans.{Reads}
 use Rattle.cc_parse_laws.proofs.Steps.{reads_length}
 use Rattle.cc_parse_laws.proofs.Inner.{CompleteInner, Ends}
 use Rattle.cc_parse_laws.proofs.Lists.{Span, Others, Separated, Enclosed, Braced, Again, Shorter, enclosed_again}
-use Rattle.cc_parse_laws.proofs.Peeks.{after, inside, sign_tail, sign_other, sign_ends}
+use Rattle.cc_parse_laws.proofs.Peeks.{after, inside, punct_tail, punct_other, punct_ends}
 use Rattle.cc_parse_laws.proofs.Firsts.{inside_sinks, first_operand, opens_not}
 use Rattle.cc_parse_laws.proofs.Edges.{operand_shorter}
 use Rattle.cc_parse_laws.proofs.Pieces.{comes, only, only_counted}
@@ -42,7 +42,7 @@ Spanned names d v ts r = Reads (outlines.value names v) d ts r × Ends 2 r
 
 further_ends : (names : Names) (vs : ValueTrees Spot) (d : ℕ) (ts r : List Token) → Reads (outlines.further_values names vs) d ts r → Ends 2 r → Ends 2 ts
 further_ends names no_values d ts r x e = subst (Ends 2) (sym x) e
-further_ends names (more_values v vs) d ts r x e = sign_ends 2 the_punct.Comma ts (omega arith) (comes the_punct.Comma None (after (outlines.further_values names (more_values v vs))) d ts r x).is
+further_ends names (more_values v vs) d ts r x e = punct_ends 2 the_punct.Comma ts (omega arith) (comes the_punct.Comma None (after (outlines.further_values names (more_values v vs))) d ts r x).is
 
 further_others : (names : Names) (vs : ValueTrees Spot) (d : ℕ) (ts r : List Token) → Reads (outlines.further_values names vs) d ts r → Ends 2 r → Others (Spanned names d) (listed vs) ts r
 unfolding listed
@@ -66,10 +66,10 @@ closed : (names : Names) (vs : ValueTrees Spot) (last : Bool) (d : ℕ) (ts r : 
 closed names vs true d ts r h x =
     let comma = comes the_punct.Comma None end d x.0 x.3.0 x.3.2 in
     let brace = comes the_punct.RightBrace None end d (skip x.0) r (subst (λ q. Reads (outlines.punct the_punct.RightBrace end) d q r) (sym comma.then) x.3.3) in
-    (x.0, values_separated names vs d ts x.0 h x.2 (sign_ends 2 the_punct.Comma x.0 (omega arith) comma.is), comma.is, brace.is, brace.then)
+    (x.0, values_separated names vs d ts x.0 h x.2 (punct_ends 2 the_punct.Comma x.0 (omega arith) comma.is), comma.is, brace.is, brace.then)
 closed names vs false d ts r h x =
     let brace = comes the_punct.RightBrace None end d x.0 r (subst (λ q. Reads (outlines.punct the_punct.RightBrace end) d q r) (sym x.3.2) x.3.3) in
-    (x.0, values_separated names vs d ts x.0 h x.2 (sign_ends 2 the_punct.RightBrace x.0 (omega arith) brace.is), brace.is, brace.then)
+    (x.0, values_separated names vs d ts x.0 h x.2 (punct_ends 2 the_punct.RightBrace x.0 (omega arith) brace.is), brace.is, brace.then)
 
 -- ---- Initialisers
 
@@ -78,14 +78,14 @@ no_equal ts e = by (next_is the_punct.Equal ts) refl
   where
     by : (b : Bool) → next_is the_punct.Equal ts ≡ b → next_is the_punct.Equal ts ≡ false
     by false y = y
-    by true y = let same = sign_tail the_punct.Equal ts y in absurd (omega (arith, e.looser, ap binds same))
+    by true y = let same = punct_tail the_punct.Equal ts y in absurd (omega (arith, e.looser, ap binds same))
 
 opens : (names : Names) (d : ℕ) (v : ValueTree Spot) (ts r : List Token) → Spanned names d v ts r → next_is the_punct.RightBrace ts ≡ false
 opens names d (single e) ts r x = let y = only_counted (2 ≤ level e) (outlines.expr names e) d ts r x.0 in opens_not names the_punct.RightBrace ts refl (first_operand names e d ts r y.1)
 opens names d (braces n vs b) ts r x =
     let i = inside (outlines.value names (braces n vs b)) in
     let y = only_counted (outlines.HasValues vs) i d ts r x.0 in
-    sign_other the_punct.RightBrace the_punct.LeftBrace ts refl (comes the_punct.LeftBrace (Some n) (after i) d ts r (inside_sinks true i d ts r y.1)).is
+    punct_other the_punct.RightBrace the_punct.LeftBrace ts refl (comes the_punct.LeftBrace (Some n) (after i) d ts r (inside_sinks true i d ts r y.1)).is
 
 module _ (readers_complete : (names : Names) (d : ℕ) → CompleteInner names (readers names d) d) where
   single_again : (names : Names) (d : ℕ) (e : ExprTree Spot) (ts r : List Token) → Reads (outlines.value names (single e)) (suc d) ts r → Ends 2 r → value names (suc d) ts ≡ Ok (single e, r)
@@ -104,7 +104,7 @@ module _ (readers_complete : (names : Names) (d : ℕ) → CompleteInner names (
       let shorter : Shorter (Spanned names d) = λ v us q z. value_shorter names v d us q z.0 in
       let spans : Braced (Spanned names d) (listed vs) last ts r = (brace.is, closed names vs last d (skip ts) r y.0 brace.then) in
       let read : enclosed (value names d) ts ≡ Ok ((listed vs, last), r) =
-      enclosed_again (value names d) (Spanned names d) (Ends 2) again shorter (λ us e. sign_ends 2 the_punct.Comma us (omega arith) e) (λ us e. sign_ends 2 the_punct.RightBrace us (omega arith) e) (opens names d) (listed vs) last ts r spans in
+      enclosed_again (value names d) (Spanned names d) (Ends 2) again shorter (λ us e. punct_ends 2 the_punct.Comma us (omega arith) e) (λ us e. punct_ends 2 the_punct.RightBrace us (omega arith) e) (opens names d) (listed vs) last ts r spans in
       rw (brace.is, brace.at, read, gathered_listed vs) refl
 
   pub value_again : (names : Names) (d : ℕ) (v : ValueTree Spot) (ts r : List Token) → Reads (outlines.value names v) d ts r → Ends 2 r → value names d ts ≡ Ok (v, r)

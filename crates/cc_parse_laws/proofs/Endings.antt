@@ -10,8 +10,8 @@ use Rattle.cc_parse_laws.proofs.Steps.{map_ok, take_reads}
 use Rattle.cc_parse_laws.proofs.Lists.{Span}
 
 -- what was read has this span
-abbrev pub Gives : {A : Type 0} → Span A → List Token → A × List Token → Type 0
-Gives P ts x = P x.0 ts x.1
+abbrev pub ReadsTo : {A : Type 0} → Span A → List Token → A × List Token → Type 0
+ReadsTo P ts x = P x.0 ts x.1
 
 -- what is there up to `m` begins an outline that goes on there
 abbrev pub Leads : (Outline → Outline) → ℕ → List Token → List Token → Type 1

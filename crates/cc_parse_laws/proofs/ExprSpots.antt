@@ -5,7 +5,7 @@ use Rattle.cc_lex.specs.declared.token.Token.{Token}
 use Rattle.cc_tree.specs.declared.operator.Side.TheVariants as side
 use Rattle.cc_tree.specs.Trees.{ExprTree, name, integer, character, string, paren, unary, binary, assign, step, choice, comma, call, member, arrow, index, cast, size_expr, size_type}
 use Rattle.cc_grammar.specs.Names.{Names}
-use Rattle.cc_grammar.specs.Outline.{Outline, end, token, part, Stands}
+use Rattle.cc_grammar.specs.Outline.{Outline, end, token, part, FitsSpot}
 use Rattle.cc_grammar.specs.Outlines as outlines
 use Rattle.cc_grammar.specs.Classes.{spot}
 use Rattle.cc_parse_laws.proofs.Spans.{Inside, Reads}
@@ -20,7 +20,7 @@ first_spot (part c h i j) = None
 first_stands : (i : Outline) (n : Spot) (d : ℕ) (ts r : List Token) → first_spot i ≡ Some n → Reads i d ts r → n ≡ spot ts
 first_stands end n d ts r e x = absurd cc
 first_stands (token h k s i) n d [] r e x = absurd x
-first_stands (token h k s i) n d (t ∷ ts) r e x = sym (subst (λ m. Stands m t.spot) e x.2)
+first_stands (token h k s i) n d (t ∷ ts) r e x = sym (subst (λ m. FitsSpot m t.spot) e x.2)
 first_stands (part c h i j) n d ts r e x = absurd cc
 
 inside_gives : (P : ℕ → Type 0) (Q : Type 0) → ((e : ℕ) → P e → Q) → (d : ℕ) → Inside true P d → Q

@@ -58,7 +58,7 @@ first_declarator names (grouped n f) d ts r w y =
     opens_at names (Unit {0}) (kind.Punct the_punct.LeftParen) (outlines.opening_spot f n) (after (inside (outlines.declarator names (grouped n f)))) d ts y.0 refl refl refl y.2
 
 -- a declarator, or what follows where none is written
-declarator_or : (names : Names) (P : List Token → Type 0) → ((ts : List Token) → OpensDeclarator names ts → P ts) → (f : DeclTree Spot) (d : ℕ) (ts r : List Token) → ReadsDeclarator names d f ts r → P r → P ts
+pub declarator_or : (names : Names) (P : List Token → Type 0) → ((ts : List Token) → OpensDeclarator names ts → P ts) → (f : DeclTree Spot) (d : ℕ) (ts r : List Token) → ReadsDeclarator names d f ts r → P r → P ts
 declarator_or names P give (declared n x) d ts r y z = give ts (first_declarator names (declared n x) d ts r refl (inside_sinks true (outlines.declarator names (declared n x)) d ts r y))
 declarator_or names P give nameless d ts r y z = subst P (sym y) z
 declarator_or names P give (pointer n c f) d ts r y z = give ts (first_declarator names (pointer n c f) d ts r refl (inside_sinks true (outlines.declarator names (pointer n c f)) d ts r y))

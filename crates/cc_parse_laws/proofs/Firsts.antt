@@ -1,6 +1,7 @@
 -- With which tokens expressions, specifiers and declarators begin.
 use Rattle.std.proofs.Common.{◌≡◌, ◌≤◌, refl, ℕ, zero, suc, Bool, true, false, List, [], ◌∷◌, Option, Some, arith, sym, ap, ◌∙◌}
-use Rattle.std.specs.Prelude.{◌&&◌, ◌||◌}
+use Rattle.std.proofs.lemmas.Bool.{and_left, and_right}
+use Rattle.std.specs.Prelude.{◌&&◌}
 use Rattle.cc_arith.specs.declared.binary_operator.IntOp.{IntOp}
 use Rattle.cc_arith.specs.declared.binary_operator.IntOp.TheVariants as int
 use Rattle.cc_arith.specs.declared.unary_operator.IntUnary.TheVariants as int_unary
@@ -21,14 +22,14 @@ use Rattle.cc_tree.specs.declared.operator.Side.TheVariants as side
 use Rattle.cc_tree.specs.declared.operator.SpecWord.{SpecWord}
 use Rattle.cc_tree.specs.declared.operator.SpecWord.TheVariants as the_spec_word
 use Rattle.cc_tree.specs.Trees.{Name, ExprTree, name, integer, character, string, paren, unary, binary, assign, step, choice, comma, call, member, arrow, index, cast, size_expr, size_type, SpecTree, word, named, struct, enum, SpecTrees, no_specs, more_specs}
-use Rattle.cc_grammar.specs.Levels.{level, binary_level, int_level, unary_punct, step_punct, spec_keyword}
+use Rattle.cc_grammar.specs.Levels.{level, binary_level, int_level, unary_punct, step_punct, word_keyword}
 use Rattle.cc_grammar.specs.Names.{Names, is_type}
 use Rattle.cc_grammar.specs.Outline.{Outline, end, token}
 use Rattle.cc_grammar.specs.Outlines as outlines
 use Rattle.cc_grammar.specs.Classes.{next_is, skip, spot, is_punct, start, start_kind, start_punct, Start, begins_name, begins_integer, begins_character, begins_string, begins_paren, begins_unary, begins_step, begins_sizeof, begins_nothing, spec_kind, spec_keyword, starts_spec, is_spec}
 use Rattle.cc_parse_laws.proofs.Spans.{Inside, Reads, reads_depth, reads_within}
 use Rattle.cc_parse_laws.proofs.Steps.{next_token}
-use Rattle.cc_parse_laws.proofs.Peeks.{after, inside, at_token, at_punct, sign_spec}
+use Rattle.cc_parse_laws.proofs.Peeks.{after, inside, at_token, at_punct, punct_spec}
 use Rattle.cc_parse_laws.proofs.Inner.{ReadsExpr}
 
 -- what is read in a counted node is read at the node's own depth too
@@ -36,26 +37,6 @@ pub inside_sinks : (c : Bool) (i : Outline) (d : ℕ) (ts r : List Token) → In
 inside_sinks false i d ts r x = x
 inside_sinks true i zero ts r x = absurd x
 inside_sinks true i (suc d) ts r x = reads_within i d (suc d) ts r x (omega (arith, reads_depth i d ts r x))
-
-pub and_left : (a b : Bool) → a ≡ false → a && b ≡ false
-and_left a b e = rw e refl
-
-pub and_right : (a b : Bool) → b ≡ false → a && b ≡ false
-and_right true b e = e
-and_right false b e = refl
-
-pub and_both : (a b : Bool) → a ≡ true → b ≡ true → a && b ≡ true
-and_both a b e f = rw (e, f) refl
-
-pub or_left : (a b : Bool) → a ≡ true → (a || b) ≡ true
-or_left a b e = rw e refl
-
-pub or_right : (a b : Bool) → b ≡ true → (a || b) ≡ true
-or_right true b e = refl
-or_right false b e = e
-
-pub neither : (a b : Bool) → a ≡ false → b ≡ false → (a || b) ≡ false
-neither a b e f = rw (e, f) refl
 
 -- ---- Expressions
 
@@ -81,7 +62,7 @@ opens_at names h k n i d ts r a b x = record {
   no_spec = at_token (starts_spec names) (λ c. is_spec (spec_kind names c)) (λ t us. refl) h k n i d ts r x ∙ b;
 }
 
-unary_opens : (op : UnaryOp) → opens (start_punct (unary_punct op)) ≡ true
+pub unary_opens : (op : UnaryOp) → opens (start_punct (unary_punct op)) ≡ true
 unary_opens the_unary.Address = refl
 unary_opens the_unary.Deref = refl
 unary_opens (the_unary.Int int_unary.Plus) = refl
@@ -89,7 +70,7 @@ unary_opens (the_unary.Int int_unary.Minus) = refl
 unary_opens (the_unary.Int int_unary.Invert) = refl
 unary_opens (the_unary.Int int_unary.Not) = refl
 
-step_opens : (op : StepOp) → opens (start_punct (step_punct op)) ≡ true
+pub step_opens : (op : StepOp) → opens (start_punct (step_punct op)) ≡ true
 step_opens the_step.Increment = refl
 step_opens the_step.Decrement = refl
 
@@ -165,7 +146,7 @@ type_ahead names ts = next_is the_punct.LeftParen ts && starts_spec names (skip 
 other_ahead : (names : Names) (h : Type 0) (k : TokenKind) (n : Option Spot) (i : Outline) (d : ℕ) (ts r : List Token) → is_punct the_punct.LeftParen k ≡ false → Reads (token h k n i) d ts r → type_ahead names ts ≡ false
 other_ahead names h k n i d ts r a x = and_left (next_is the_punct.LeftParen ts) (starts_spec names (skip ts)) (at_token (next_is the_punct.LeftParen) (is_punct the_punct.LeftParen) (λ t us. refl) h k n i d ts r x ∙ a)
 
-unary_no_paren : (op : UnaryOp) → is_punct the_punct.LeftParen (kind.Punct (unary_punct op)) ≡ false
+pub unary_no_paren : (op : UnaryOp) → is_punct the_punct.LeftParen (kind.Punct (unary_punct op)) ≡ false
 unary_no_paren the_unary.Address = refl
 unary_no_paren the_unary.Deref = refl
 unary_no_paren (the_unary.Int int_unary.Plus) = refl
@@ -173,7 +154,7 @@ unary_no_paren (the_unary.Int int_unary.Minus) = refl
 unary_no_paren (the_unary.Int int_unary.Invert) = refl
 unary_no_paren (the_unary.Int int_unary.Not) = refl
 
-step_no_paren : (op : StepOp) → is_punct the_punct.LeftParen (kind.Punct (step_punct op)) ≡ false
+pub step_no_paren : (op : StepOp) → is_punct the_punct.LeftParen (kind.Punct (step_punct op)) ≡ false
 step_no_paren the_step.Increment = refl
 step_no_paren the_step.Decrement = refl
 
@@ -205,7 +186,7 @@ no_type_ahead names (size_type n t) d ts r h y = other_ahead names (Unit {0}) (k
 
 -- ---- Specifiers
 
-word_starts : (v : SpecWord) → is_spec (spec_keyword (spec_keyword v)) ≡ true
+pub word_starts : (v : SpecWord) → is_spec (spec_keyword (word_keyword v)) ≡ true
 word_starts the_spec_word.Typedef = refl
 word_starts the_spec_word.Extern = refl
 word_starts the_spec_word.Static = refl
@@ -220,14 +201,14 @@ word_starts the_spec_word.Signed = refl
 word_starts the_spec_word.Unsigned = refl
 word_starts the_spec_word.Bool = refl
 
-name_starts : (names : Names) (x : Name) → is_type names x ≡ true → is_spec (spec_kind names (kind.Identifier x)) ≡ true
+pub name_starts : (names : Names) (x : Name) → is_type names x ≡ true → is_spec (spec_kind names (kind.Identifier x)) ≡ true
 name_starts names x e = rw e refl
 
 spec_at : (names : Names) (h : Type 0) (k : TokenKind) (n : Option Spot) (i : Outline) (d : ℕ) (ts r : List Token) → is_spec (spec_kind names k) ≡ true → Reads (token h k n i) d ts r → starts_spec names ts ≡ true
 spec_at names h k n i d ts r a x = at_token (starts_spec names) (λ c. is_spec (spec_kind names c)) (λ t us. refl) h k n i d ts r x ∙ a
 
 pub first_spec : (names : Names) (q : SpecTree Spot) (d : ℕ) (ts r : List Token) → Reads (outlines.spec names q) d ts r → starts_spec names ts ≡ true
-first_spec names (word n v) d ts r y = spec_at names (Unit {0}) (kind.Keyword (spec_keyword v)) (Some n) end d ts r (word_starts v) y
+first_spec names (word n v) d ts r y = spec_at names (Unit {0}) (kind.Keyword (word_keyword v)) (Some n) end d ts r (word_starts v) y
 first_spec names (named n x) d ts r y =
     let t = next_token (is_type names x ≡ true) (kind.Identifier x) (Some n) end d ts r y in
     spec_at names (is_type names x ≡ true) (kind.Identifier x) (Some n) end d ts r (name_starts names x t.holds) y
@@ -235,7 +216,7 @@ first_spec names (struct n tag ms) d ts r y = spec_at names (Unit {0}) (kind.Key
 first_spec names (enum n tag cs trailing) d ts r y = spec_at names (Unit {0}) (kind.Keyword the_keyword.Enum) (Some n) (after (inside (outlines.spec names (enum n tag cs trailing)))) d ts y.0 refl y.2
 
 pub spec_stands : (names : Names) (q : SpecTree Spot) (d : ℕ) (ts r : List Token) → Reads (outlines.spec names q) d ts r → spot ts ≡ outlines.spec_spot q
-spec_stands names (word n v) d ts r y = let t = next_token (Unit {0}) (kind.Keyword (spec_keyword v)) (Some n) end d ts r y in t.at
+spec_stands names (word n v) d ts r y = let t = next_token (Unit {0}) (kind.Keyword (word_keyword v)) (Some n) end d ts r y in t.at
 spec_stands names (named n x) d ts r y = let t = next_token (is_type names x ≡ true) (kind.Identifier x) (Some n) end d ts r y in t.at
 spec_stands names (struct n tag ms) d ts r y = let t = next_token (Unit {0}) (kind.Keyword the_keyword.Struct) (Some n) (after (inside (outlines.spec names (struct n tag ms)))) d ts y.0 y.2 in t.at
 spec_stands names (enum n tag cs trailing) d ts r y = let t = next_token (Unit {0}) (kind.Keyword the_keyword.Enum) (Some n) (after (inside (outlines.spec names (enum n tag cs trailing)))) d ts y.0 y.2 in t.at
@@ -250,4 +231,4 @@ spec_not names q ts x = by (next_is q ts) refl
   where
     by : (b : Bool) → next_is q ts ≡ b → next_is q ts ≡ false
     by false e = e
-    by true e = let no : starts_spec names ts ≡ false = sign_spec names q ts e in absurd cc
+    by true e = let no : starts_spec names ts ≡ false = punct_spec names q ts e in absurd cc

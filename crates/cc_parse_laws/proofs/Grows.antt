@@ -1,7 +1,7 @@
 -- How the reader of declarators comes to a declarator with tokens still to be looked at.
 use Rattle.std.proofs.Common.{◌≡◌, ◌≤◌, ◌<◌, ◌+◌, refl, ℕ, zero, suc, true, false, List, Some, None, Ok, arith, ap, ◌∙◌}
 use Rattle.std.specs.Prelude.{◌&&◌, ◌||◌, nat_lt}
-use Rattle.std.proofs.lemmas.Bool.{lt-ltb}
+use Rattle.std.proofs.lemmas.Bool.{lt-ltb, and_left, and_from, or_from}
 use Rattle.cc_base.specs.declared.place.Spot.{Spot}
 use Rattle.cc_lex.specs.declared.token.Token.{Token}
 use Rattle.cc_lex.specs.declared.token.TokenKind.TheVariants as kind
@@ -18,7 +18,7 @@ use Rattle.cc_parse_laws.proofs.Spans.{Reads, reads_depth}
 use Rattle.cc_parse_laws.proofs.Steps.{branch_true, branch_false}
 use Rattle.cc_parse_laws.proofs.Depths as depths
 use Rattle.cc_parse_laws.proofs.Peeks.{after, inside, at_token}
-use Rattle.cc_parse_laws.proofs.Firsts.{inside_sinks, and_left, and_both, neither}
+use Rattle.cc_parse_laws.proofs.Firsts.{inside_sinks}
 use Rattle.cc_parse_laws.proofs.Climbs.{bound}
 use Rattle.cc_parse_laws.proofs.Inner.{ReadsDeclarator, Suits, EndsDeclarator}
 
@@ -67,7 +67,7 @@ module _ (names : Names) (inner : Inner) (d : ℕ) where
         same =
             same
             ∙ branch_true (suffix_comes names inner (suc d) m && nat_lt (declarator_depth a) (suc d)) (suffix names inner (suc d) a >>= suffixes names inner (suc d) turns) (pure a) m
-            (and_both (suffix_comes names inner (suc d) m) (nat_lt (declarator_depth a) (suc d)) comes (lt-ltb _ _ h))
+            (and_from (suffix_comes names inner (suc d) m) (nat_lt (declarator_depth a) (suc d)) comes (lt-ltb _ _ h))
             ∙ bound (suffixes names inner (suc d) turns) (suffix names inner (suc d) a m) f r read;
       }
 
@@ -87,8 +87,8 @@ module _ (names : Names) (inner : Inner) (d : ℕ) where
   done_at zero f r e = refl
   done_at (suc turns) f r e =
       branch_false (suffix_comes names inner (suc d) r && nat_lt (declarator_depth f) (suc d)) (suffix names inner (suc d) f >>= suffixes names inner (suc d) turns) (pure f) r
-      (and_left (suffix_comes names inner (suc d) r) (nat_lt (declarator_depth f) (suc d)) (neither (next_is the_punct.LeftBracket r) (next_is the_punct.LeftParen r) e.no_bracket e.no_paren))
+      (and_left (suffix_comes names inner (suc d) r) (nat_lt (declarator_depth f) (suc d)) (or_from (next_is the_punct.LeftBracket r) (next_is the_punct.LeftParen r) e.no_bracket e.no_paren))
 
-  -- Reading what the declarator is read of comes to it, whatever follows that could follow a left declarator.
+  -- Reading what the declarator is read of comes to it, whatever follows; where none is written, what could follow a left declarator.
   abbrev pub IsGrown : DeclTree Spot → Type 0
-  IsGrown f = (mode : Mode) (ts r : List Token) → Suits mode f → Reads (outlines.declarator names f) d ts r → Suffixed names r → Grows mode ts f r
+  IsGrown f = (mode : Mode) (ts r : List Token) → Suits mode f → Reads (outlines.declarator names f) d ts r → (outlines.is_written f ≡ false → Suffixed names r) → Grows mode ts f r

@@ -41,5 +41,5 @@ pub mod SoundStatements
 pub mod SoundTypes
 pub mod SoundValues
 pub mod Spans
-pub mod Stands
+pub mod FirstTokens
 pub mod Steps

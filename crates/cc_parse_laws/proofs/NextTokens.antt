@@ -10,8 +10,8 @@ use Rattle.cc_lex.specs.declared.punct.Punct.{Punct}
 use Rattle.cc_lex.specs.declared.punct.Punct.TheVariants as the_punct
 use Rattle.cc_tree.specs.Trees.{Name}
 use Rattle.cc_grammar.specs.Names.{Names, is_type}
-use Rattle.cc_grammar.specs.Levels.{unary_punct, step_punct, binary_punct, assign_punct, spec_keyword}
-use Rattle.cc_grammar.specs.Outline.{Outline, end, token, Stands}
+use Rattle.cc_grammar.specs.Levels.{unary_punct, step_punct, binary_punct, assign_punct, word_keyword}
+use Rattle.cc_grammar.specs.Outline.{Outline, end, token, FitsSpot}
 use Rattle.cc_grammar.specs.Outlines.{identifier, punct}
 use Rattle.cc_grammar.specs.Classes.{skip, spot, ident, next_ident, literal, next_literal, Start, begins_name, begins_integer, begins_character, begins_string, begins_paren, begins_unary, begins_step, begins_sizeof, begins_nothing, start_punct, start_keyword, start_kind, start, Tail, goes_binary, goes_assign, goes_question, goes_comma, goes_call, goes_index, goes_dot, goes_arrow, goes_step, ends_here, tail_punct, tail_kind, tail, SpecStart, spec_word, spec_struct, spec_enum, spec_named, no_spec, spec_keyword, spec_kind, spec_start}
 use Rattle.cc_grammar.specs.Reading.{skipping, id_by, id}
@@ -25,7 +25,7 @@ NextKind w [] = ⊥
 NextKind w (t ∷ ts) = t.kind ≡ w
 
 -- it is read
-pub kind_reads : (h : Type 0) (w : TokenKind) (n : Option Spot) (o : Outline) (d : ℕ) (ts r : List Token) → NextKind w ts → h → Stands n (spot ts) → Reads o d (skip ts) r → Reads (token h w n o) d ts r
+pub kind_reads : (h : Type 0) (w : TokenKind) (n : Option Spot) (o : Outline) (d : ℕ) (ts r : List Token) → NextKind w ts → h → FitsSpot n (spot ts) → Reads o d (skip ts) r → Reads (token h w n o) d ts r
 kind_reads h w n o d [] r e a s x = absurd e
 kind_reads h w n o d (t ∷ ts) r e a s x = (a, e, s, x)
 
@@ -147,7 +147,7 @@ tail_next w (t ∷ ts) e = is_next (tail_token (tail_kind t.kind)) w t ts (tail_
 -- ---- How a specifier begins
 
 abbrev pub spec_token : SpecStart → Option TokenKind
-spec_token (spec_word w) = Some (kind.Keyword (spec_keyword w))
+spec_token (spec_word w) = Some (kind.Keyword (word_keyword w))
 spec_token spec_struct = Some (kind.Keyword the_keyword.Struct)
 spec_token spec_enum = Some (kind.Keyword the_keyword.Enum)
 spec_token (spec_named x) = Some (kind.Identifier x)
@@ -238,7 +238,7 @@ id_ok names ts x e = by (next_ident ts) refl e
           (c.0, ident_next y ts i, refl)
     ]
 
-pub id_reads : (names : Names) (n : Option Spot) (o : Outline) (d : ℕ) (ts r : List Token) (x : Name × List Token) → id names ts ≡ Ok x → Stands n (spot ts) → Reads o d x.1 r → Reads (identifier names n x.0 o) d ts r
+pub id_reads : (names : Names) (n : Option Spot) (o : Outline) (d : ℕ) (ts r : List Token) (x : Name × List Token) → id names ts ≡ Ok x → FitsSpot n (spot ts) → Reads o d x.1 r → Reads (identifier names n x.0 o) d ts r
 id_reads names n o d ts r x e at rest =
     let i = id_ok names ts x e in
     kind_reads (is_type names x.0 ≡ false) (kind.Identifier x.0) n o d ts r i.1 i.0 at (subst (λ us. Reads o d us r) (sym i.2) rest)

@@ -12,22 +12,22 @@ use Rattle.cc_grammar.specs.Classes.{same_keyword, is_punct, is_keyword, next_is
 use Rattle.cc_parse_laws.proofs.Peeks.{at_punct, at_keyword}
 use Rattle.cc_parse_laws.proofs.Firsts.{opens, OpensExpr}
 
-pub sign_stmt : (s : Punct) (ts : List Token) → next_is s ts ≡ true → stmt_start ts ≡ stmt_punct s
-sign_stmt s ts e = at_punct stmt_start stmt_kind (λ t us. refl) s ts e
+pub punct_stmt : (s : Punct) (ts : List Token) → next_is s ts ≡ true → stmt_start ts ≡ stmt_punct s
+punct_stmt s ts e = at_punct stmt_start stmt_kind (λ t us. refl) s ts e
 
 -- ---- A keyword
 
-pub key_other : (v w : Keyword) (ts : List Token) → same_keyword v w ≡ false → next_is_keyword w ts ≡ true → next_is_keyword v ts ≡ false
-key_other v w ts other e = at_keyword (next_is_keyword v) (is_keyword v) (λ t us. refl) w ts e ∙ other
+pub keyword_other : (v w : Keyword) (ts : List Token) → same_keyword v w ≡ false → next_is_keyword w ts ≡ true → next_is_keyword v ts ≡ false
+keyword_other v w ts other e = at_keyword (next_is_keyword v) (is_keyword v) (λ t us. refl) w ts e ∙ other
 
 pub keyword_punct : (q : Punct) (w : Keyword) (ts : List Token) → next_is_keyword w ts ≡ true → next_is q ts ≡ false
 keyword_punct q w ts e = at_keyword (next_is q) (is_punct q) (λ t us. refl) w ts e
 
-pub key_spec : (names : Names) (w : Keyword) (ts : List Token) → is_spec (spec_keyword w) ≡ false → next_is_keyword w ts ≡ true → starts_spec names ts ≡ false
-key_spec names w ts other e = at_keyword (starts_spec names) (λ c. is_spec (spec_kind names c)) (λ t us. refl) w ts e ∙ other
+pub keyword_spec : (names : Names) (w : Keyword) (ts : List Token) → is_spec (spec_keyword w) ≡ false → next_is_keyword w ts ≡ true → starts_spec names ts ≡ false
+keyword_spec names w ts other e = at_keyword (starts_spec names) (λ c. is_spec (spec_kind names c)) (λ t us. refl) w ts e ∙ other
 
-pub key_stmt : (w : Keyword) (ts : List Token) → next_is_keyword w ts ≡ true → stmt_start ts ≡ stmt_keyword w
-key_stmt w ts e = at_keyword stmt_start stmt_kind (λ t us. refl) w ts e
+pub keyword_stmt : (w : Keyword) (ts : List Token) → next_is_keyword w ts ≡ true → stmt_start ts ≡ stmt_keyword w
+keyword_stmt w ts e = at_keyword stmt_start stmt_kind (λ t us. refl) w ts e
 
 -- ---- A specifier
 

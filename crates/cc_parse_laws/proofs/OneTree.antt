@@ -8,6 +8,8 @@ use Rattle.cc_grammar.specs.Outlines as outlines
 use Rattle.cc_grammar.specs.Outcomes.{Outcome}
 use Rattle.cc_grammar.specs.Names.{Names}
 use Rattle.cc_grammar.specs.Reading.{readers, reading}
+use Rattle.cc_grammar.specs.Orderly.{Orderly}
+use Rattle.cc_grammar.specs.Spells.{Spells}
 use Rattle.cc_parse_laws.proofs.Steps.{ok_is}
 use Rattle.cc_parse_laws.proofs.Inner.{CompleteInner}
 use Rattle.cc_parse_laws.proofs.CompleteFiles.{spelled_file_is_read}
@@ -21,7 +23,7 @@ same_file f g e = ap (λ (y : List (ExternalTree Spot) × List Token). y.0) (ok_
 
 module _ (readers_complete : (names : Names) (d : ℕ) → CompleteInner names (readers names d) d) where
   -- Both are read at the greater of their depths, and reading gives one file.
-  pub one_tree : (tokens : List Token) (f g : List (ExternalTree Spot)) → outlines.Orderly f → outlines.Spells f tokens → outlines.Orderly g → outlines.Spells g tokens → f ≡ g
+  pub one_tree : (tokens : List Token) (f g : List (ExternalTree Spot)) → Orderly f → Spells f tokens → Orderly g → Spells g tokens → f ≡ g
   unfolding whole
   one_tree tokens f g orderly_f spells_f orderly_g spells_g =
       let d = max (depth (outlines.file f)) (depth (outlines.file g)) in

@@ -42,37 +42,37 @@ pub at_keyword : {B : Type 0} (f : List Token → B) (g : TokenKind → B) → (
 at_keyword f g same w [] e = absurd cc
 at_keyword f g same w (t ∷ ts) e = same t ts ∙ ap g (keyword_kind w t.kind e)
 
-pub sign_tail : (s : Punct) (ts : List Token) → next_is s ts ≡ true → tail ts ≡ tail_kind (kind.Punct s)
-sign_tail s ts e = at_punct tail tail_kind (λ t us. refl) s ts e
+pub punct_tail : (s : Punct) (ts : List Token) → next_is s ts ≡ true → tail ts ≡ tail_kind (kind.Punct s)
+punct_tail s ts e = at_punct tail tail_kind (λ t us. refl) s ts e
 
-pub sign_literal : (s : Punct) (ts : List Token) → next_is s ts ≡ true → next_literal ts ≡ None
-sign_literal s ts e = at_punct next_literal literal (λ t us. refl) s ts e
+pub punct_literal : (s : Punct) (ts : List Token) → next_is s ts ≡ true → next_literal ts ≡ None
+punct_literal s ts e = at_punct next_literal literal (λ t us. refl) s ts e
 
-pub sign_ident : (s : Punct) (ts : List Token) → next_is s ts ≡ true → next_ident ts ≡ None
-sign_ident s ts e = at_punct next_ident ident (λ t us. refl) s ts e
+pub punct_ident : (s : Punct) (ts : List Token) → next_is s ts ≡ true → next_ident ts ≡ None
+punct_ident s ts e = at_punct next_ident ident (λ t us. refl) s ts e
 
-pub sign_spec : (names : Names) (s : Punct) (ts : List Token) → next_is s ts ≡ true → starts_spec names ts ≡ false
-sign_spec names s ts e = at_punct (starts_spec names) (λ c. is_spec (spec_kind names c)) (λ t us. refl) s ts e
+pub punct_spec : (names : Names) (s : Punct) (ts : List Token) → next_is s ts ≡ true → starts_spec names ts ≡ false
+punct_spec names s ts e = at_punct (starts_spec names) (λ c. is_spec (spec_kind names c)) (λ t us. refl) s ts e
 
 pub punct_keyword : (w : Keyword) (s : Punct) (ts : List Token) → next_is s ts ≡ true → next_is_keyword w ts ≡ false
 punct_keyword w s ts e = at_punct (next_is_keyword w) (is_keyword w) (λ t us. refl) s ts e
 
 -- another punctuator
-pub sign_other : (u s : Punct) (ts : List Token) → same_punct u s ≡ false → next_is s ts ≡ true → next_is u ts ≡ false
-sign_other u s ts other e = at_punct (next_is u) (is_punct u) (λ t us. refl) s ts e ∙ other
+pub punct_other : (u s : Punct) (ts : List Token) → same_punct u s ≡ false → next_is s ts ≡ true → next_is u ts ≡ false
+punct_other u s ts other e = at_punct (next_is u) (is_punct u) (λ t us. refl) s ts e ∙ other
 
-pub sign_ends : (n : ℕ) (s : Punct) (ts : List Token) → binds (tail_kind (kind.Punct s)) < n → next_is s ts ≡ true → Ends n ts
-sign_ends n s ts h e = record { looser = rw (sign_tail s ts e) h; no_literal = sign_literal s ts e }
+pub punct_ends : (n : ℕ) (s : Punct) (ts : List Token) → binds (tail_kind (kind.Punct s)) < n → next_is s ts ≡ true → Ends n ts
+punct_ends n s ts h e = record { looser = rw (punct_tail s ts e) h; no_literal = punct_literal s ts e }
 
-pub sign_ends_specs : (names : Names) (s : Punct) (ts : List Token) → same_punct the_punct.LeftBrace s ≡ false → next_is s ts ≡ true → EndsSpecs names ts
-sign_ends_specs names s ts other e = record { no_spec = sign_spec names s ts e; no_brace = sign_other the_punct.LeftBrace s ts other e }
+pub punct_ends_specs : (names : Names) (s : Punct) (ts : List Token) → same_punct the_punct.LeftBrace s ≡ false → next_is s ts ≡ true → EndsSpecs names ts
+punct_ends_specs names s ts other e = record { no_spec = punct_spec names s ts e; no_brace = punct_other the_punct.LeftBrace s ts other e }
 
-pub sign_ends_declarator : (s : Punct) (ts : List Token) → same_punct the_punct.LeftBracket s ≡ false → same_punct the_punct.LeftParen s ≡ false → same_punct the_punct.Star s ≡ false → next_is s ts ≡ true → EndsDeclarator ts
-sign_ends_declarator s ts a b c e = record {
-  no_bracket = sign_other the_punct.LeftBracket s ts a e;
-  no_paren = sign_other the_punct.LeftParen s ts b e;
-  no_star = sign_other the_punct.Star s ts c e;
-  no_name = sign_ident s ts e;
+pub punct_ends_declarator : (s : Punct) (ts : List Token) → same_punct the_punct.LeftBracket s ≡ false → same_punct the_punct.LeftParen s ≡ false → same_punct the_punct.Star s ≡ false → next_is s ts ≡ true → EndsDeclarator ts
+punct_ends_declarator s ts a b c e = record {
+  no_bracket = punct_other the_punct.LeftBracket s ts a e;
+  no_paren = punct_other the_punct.LeftParen s ts b e;
+  no_star = punct_other the_punct.Star s ts c e;
+  no_name = punct_ident s ts e;
   no_const = punct_keyword the_keyword.Const s ts e;
 }
 

@@ -8,7 +8,7 @@ use Rattle.cc_lex.specs.declared.keyword.Keyword.{Keyword}
 use Rattle.cc_lex.specs.declared.punct.Punct.{Punct}
 use Rattle.cc_lex.specs.declared.punct.Punct.TheVariants as the_punct
 use Rattle.cc_tree.specs.Trees.{ExprTree, SpecTrees, StmtTree}
-use Rattle.cc_grammar.specs.Outline.{Outline, end, token, part, Stands}
+use Rattle.cc_grammar.specs.Outline.{Outline, end, token, part, FitsSpot}
 use Rattle.cc_grammar.specs.Outlines as outlines
 use Rattle.cc_grammar.specs.Names.{Names}
 use Rattle.cc_grammar.specs.Classes.{next_is, next_is_keyword, skip, spot, tail_punct, binds}
@@ -17,7 +17,7 @@ use Rattle.cc_grammar.specs.Reading.{readers, condition}
 use Rattle.cc_parse_laws.proofs.Spans.{Inside, Reads}
 use Rattle.cc_parse_laws.proofs.Steps.{next_token, reads_next, reads_next_keyword, reads_take, reads_take_keyword}
 use Rattle.cc_parse_laws.proofs.Inner.{CompleteInner, Ends, EndsSpecs}
-use Rattle.cc_parse_laws.proofs.Peeks.{sign_ends}
+use Rattle.cc_parse_laws.proofs.Peeks.{punct_ends}
 
 -- a step reads this, and the rest of the outline is what comes after
 pub record Got {A : Type 0} (read : Parser A) (a : A) (o : Outline) (d : ℕ) (ts r : List Token) : Type 0 where
@@ -34,7 +34,7 @@ at_depth C h i (suc e) ts r x give = give e x.1 (subst (λ m. Reads i e ts m) x.
 pub record Comes (s : Punct) (n : Option Spot) (i : Outline) (d : ℕ) (ts r : List Token) : Type 0 where
   pub is : next_is s ts ≡ true
   pub taken : take s ts ≡ Ok (tt, skip ts)
-  pub at : Stands n (spot ts)
+  pub at : FitsSpot n (spot ts)
   pub then : Reads i d (skip ts) r
 
 pub comes : (s : Punct) (n : Option Spot) (i : Outline) (d : ℕ) (ts r : List Token) → Reads (token (Unit {0}) (kind.Punct s) n i) d ts r → Comes s n i d ts r
@@ -46,7 +46,7 @@ pub record ComesKey (w : Keyword) (n : Option Spot) (h : Type 0) (i : Outline) (
   pub holds : h
   pub is : next_is_keyword w ts ≡ true
   pub taken : take_keyword w ts ≡ Ok (tt, skip ts)
-  pub at : Stands n (spot ts)
+  pub at : FitsSpot n (spot ts)
   pub then : Reads i d (skip ts) r
 
 pub comes_keyword : (w : Keyword) (n : Option Spot) (h : Type 0) (i : Outline) (d : ℕ) (ts r : List Token) → Reads (token h (kind.Keyword w) n i) d ts r → ComesKey w n h i d ts r
@@ -66,7 +66,7 @@ module _ (readers_complete : (names : Names) (d : ℕ) → CompleteInner names (
   pub got_expr : (names : Names) (d least : ℕ) (e : ExprTree Spot) (s : Punct) (i : Outline) (ts r : List Token) → binds (tail_punct s) < least
       → Reads (outlines.operand least e (outlines.expr names e) (outlines.punct s i)) d ts r → Got ((readers names d).expr least) e (outlines.punct s i) d ts r
   got_expr names d least e s i ts r h x =
-      let ends : Ends least x.0 = sign_ends least s x.0 h (reads_next (Unit {0}) s None i d x.0 r x.3) in
+      let ends : Ends least x.0 = punct_ends least s x.0 h (reads_next (Unit {0}) s None i d x.0 r x.3) in
       record { rest = x.0; reads = (readers_complete names d).expr least e ts x.0 x.1 x.2 ends; then = x.3 }
 
   -- specifiers, where what comes after goes on with none

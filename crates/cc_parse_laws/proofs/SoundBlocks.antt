@@ -17,7 +17,7 @@ use Rattle.cc_parse_laws.proofs.Steps.{bind_ok, map_ok, ok_is, branched, next_re
 use Rattle.cc_parse_laws.proofs.Lists.{IsSound}
 use Rattle.cc_parse_laws.proofs.Inner.{SoundInner}
 use Rattle.cc_parse_laws.proofs.Begins.{Opens, opens}
-use Rattle.cc_parse_laws.proofs.Endings.{Gives, taken, last_part}
+use Rattle.cc_parse_laws.proofs.Endings.{ReadsTo, taken, last_part}
 use Rattle.cc_parse_laws.proofs.SoundDeclarations.{declaration_sound}
 use Rattle.cc_parse_laws.proofs.SoundClauses.{expr_then}
 
@@ -45,14 +45,14 @@ module _ (readers_sound : (names : Names) (d : ℕ) → SoundInner names (reader
   declares_sound (suc d) names ts x e =
       let m = map_ok (declaration_at d names ts) declares x e in
       let s = declaration_sound readers_sound d names ts m.0 m.1 in
-      subst (Gives (ReadsItem names (suc d)) ts) m.2 (m.0.1, s.0, s.1, refl)
+      subst (ReadsTo (ReadsItem names (suc d)) ts) m.2 (m.0.1, s.0, s.1, refl)
 
   case_sound : (d : ℕ) (names : Names) (ts : List Token) (x : ItemTree Spot × List Token) → next_is_keyword the_keyword.Case ts ≡ true
       → counted_by d (λ e. skipping ((readers names e).expr 3 >>= (λ c. take the_punct.Colon >> pure (case_label (spot ts) c)))) ts ≡ Ok x → ReadsItem names d x.0 ts x.1
   case_sound zero names ts x opening e = absurd cc
   case_sound (suc d) names ts x opening e =
       let c = expr_then readers_sound names d 3 (omega arith) the_punct.Colon (case_label (spot ts)) (skip ts) x e in
-      subst (Gives (ReadsItem names (suc d)) ts) c.1
+      subst (ReadsTo (ReadsItem names (suc d)) ts) c.1
       (x.1, tt, next_keyword_reads the_keyword.Case (Some (spot ts)) (outlines.operand 3 c.0 (outlines.expr names c.0) ▸ outlines.punct the_punct.Colon ▸ end) d ts x.1 opening refl (c.2 end x.1 refl), refl)
 
   default_sound : (d : ℕ) (names : Names) (ts : List Token) (x : ItemTree Spot × List Token) → next_is_keyword the_keyword.Default ts ≡ true
@@ -60,7 +60,7 @@ module _ (readers_sound : (names : Names) (d : ℕ) → SoundInner names (reader
   default_sound zero names ts x opening e = absurd cc
   default_sound (suc d) names ts x opening e =
       let t = taken the_punct.Colon (default_label (spot ts)) d (skip ts) x e in
-      subst (Gives (ReadsItem names (suc d)) ts) t.0
+      subst (ReadsTo (ReadsItem names (suc d)) ts) t.0
       (x.1, tt, next_keyword_reads the_keyword.Default (Some (spot ts)) (outlines.punct the_punct.Colon ▸ end) d ts x.1 opening refl (t.1 end x.1 refl), refl)
 
   -- ---- Over what is shown of the reader of the statements inside
@@ -81,14 +81,14 @@ module _ (readers_sound : (names : Names) (d : ℕ) → SoundInner names (reader
     does_sound names ts x e =
         let m = map_ok (inner names ts) does x e in
         let s = inner_sound names ts m.0 m.1 in
-        subst (Gives (ReadsItem names d) ts) m.2 s.there
+        subst (ReadsTo (ReadsItem names d) ts) m.2 s.there
 
     label_sound : (b : StmtStart) (names : Names) (ts : List Token) (x : ItemTree Spot × List Token) → Opens b ts → label_by inner d b names (spot ts) ts ≡ Ok x → ReadsItem names d x.0 ts x.1
     label_sound begins_case names ts x opening e = case_sound d names ts x opening e
     label_sound begins_default names ts x opening e = default_sound d names ts x opening e
     label_sound _ names ts x opening e = does_sound names ts x e
 
-    item_sound : (names : Names) → IsSound (item inner d names) (ReadsItem names d)
+    pub item_sound : (names : Names) → IsSound (item inner d names) (ReadsItem names d)
     item_sound names ts x e =
         elim (branched (starts_spec names ts) (counted_by d (λ e. declares <$> declaration_at e names)) (λ us. label_by inner d (stmt_start us) names (spot us) us) ts (Ok x) e) [
           | inl c ↦ declares_sound d names ts x c.1
@@ -103,14 +103,14 @@ module _ (readers_sound : (names : Names) (d : ℕ) → SoundInner names (reader
     items_by_sound zero names ts x e = absurd cc
     items_by_sound (suc turns) names ts x e =
         elim (branched (next_is the_punct.RightBrace ts) (skipping (pure [])) (item inner d names >>= (λ i. (λ is. i ∷ is) <$> items_by inner d turns (after_item i names))) ts (Ok x) e) [
-          | inl c ↦ subst (Gives (Closes names) ts) (ok_is ([], skip ts) x c.1) (ts, refl, c.0, refl)
+          | inl c ↦ subst (ReadsTo (Closes names) ts) (ok_is ([], skip ts) x c.1) (ts, refl, c.0, refl)
           | inr c ↦
               let a = bind_ok (item inner d names ts) (λ i. (λ is. i ∷ is) <$> items_by inner d turns (after_item i names)) x c.1 in
               let first = item_sound names ts a.0 a.1 in
               let m = map_ok (items_by inner d turns (after_item a.0.0 names) a.0.1) (λ is. a.0.0 ∷ is) x a.2 in
               let rest = items_by_sound turns (after_item a.0.0 names) a.0.1 m.0 m.1 in
               let others = last_part (outlines.items (after_item a.0.0 names) (gathered_items m.0.0)) d a.0.1 rest.0 rest.1 in
-              subst (Gives (Closes names) ts) {x = (a.0.0 ∷ m.0.0, m.0.1)} m.2 (rest.0, (a.0.1, tt, first, others), rest.2, rest.3)
+              subst (ReadsTo (Closes names) ts) {x = (a.0.0 ∷ m.0.0, m.0.1)} m.2 (rest.0, (a.0.1, tt, first, others), rest.2, rest.3)
         ]
 
     pub items_sound : (names : Names) → IsSound (items inner d names) (λ is ts r. Reads (outlines.within (outlines.items names (gathered_items is)) ▸ outlines.punct the_punct.RightBrace ▸ end) d ts r)

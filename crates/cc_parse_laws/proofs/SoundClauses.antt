@@ -16,7 +16,7 @@ use Rattle.cc_parse_laws.proofs.Steps.{bind_ok, map_ok, ok_is, branched, next_re
 use Rattle.cc_parse_laws.proofs.Lists.{IsSound}
 use Rattle.cc_parse_laws.proofs.Inner.{SoundInner}
 use Rattle.cc_parse_laws.proofs.Begins.{operand_begins}
-use Rattle.cc_parse_laws.proofs.Endings.{Gives, Leads, taken}
+use Rattle.cc_parse_laws.proofs.Endings.{ReadsTo, Leads, taken}
 use Rattle.cc_parse_laws.proofs.SoundDeclarations.{declaration_sound}
 
 -- a clause, which may be empty, and the first clause of a `for` with its semicolon
@@ -41,7 +41,7 @@ module _ (readers_sound : (names : Names) (d : ℕ) → SoundInner names (reader
   start_declares_sound (suc d) names ts x e =
       let m = map_ok (declaration_at d names ts) start_declaration x e in
       let s = declaration_sound readers_sound d names ts m.0 m.1 in
-      subst (Gives (ReadsStart names (suc d)) ts) m.2 (m.0.1, s.0, s.1, refl)
+      subst (ReadsTo (ReadsStart names (suc d)) ts) m.2 (m.0.1, s.0, s.1, refl)
 
   -- The reader of statements inside has no part in these.
   module _ (inner : Names → Parser (StmtTree Spot)) (d : ℕ) where
@@ -59,20 +59,20 @@ module _ (readers_sound : (names : Names) (d : ℕ) → SoundInner names (reader
     pub clause_sound : (names : Names) (ends : List Token → Bool) → IsSound (clause_until inner d names ends) (ReadsClause names d)
     clause_sound names ends ts x e =
         elim (branched (ends ts) (pure None) (Some <$> (readers names d).expr 1) ts (Ok x) e) [
-          | inl c ↦ subst (Gives (ReadsClause names d) ts) (ok_is (None, ts) x c.1) refl
+          | inl c ↦ subst (ReadsTo (ReadsClause names d) ts) (ok_is (None, ts) x c.1) refl
           | inr c ↦
               let m = map_ok ((readers names d).expr 1 ts) Some x c.1 in
               let s = (readers_sound names d).expr 1 (omega arith) ts m.0 m.1 in
-              subst (Gives (ReadsClause names d) ts) m.2 (m.0.1, s.0, s.1, refl)
+              subst (ReadsTo (ReadsClause names d) ts) m.2 (m.0.1, s.0, s.1, refl)
         ]
 
     start_expr_sound : (names : Names) → IsSound (start_expr_behind inner d names) (ReadsStart names d)
     start_expr_sound names ts x e =
         elim (branched (next_is the_punct.Semicolon ts) (skipping (pure no_start)) ((readers names d).expr 1 >>= (λ c. take the_punct.Semicolon >> pure (start_expr c))) ts (Ok x) e) [
-          | inl c ↦ subst (Gives (ReadsStart names d) ts) (ok_is (no_start, skip ts) x c.1) (next_reads the_punct.Semicolon None end d ts (skip ts) c.0 tt refl)
+          | inl c ↦ subst (ReadsTo (ReadsStart names d) ts) (ok_is (no_start, skip ts) x c.1) (next_reads the_punct.Semicolon None end d ts (skip ts) c.0 tt refl)
           | inr c ↦
               let s = expr_then names d 1 (omega arith) the_punct.Semicolon start_expr ts x c.1 in
-              subst (Gives (ReadsStart names d) ts) s.1 (s.2 end x.1 refl)
+              subst (ReadsTo (ReadsStart names d) ts) s.1 (s.2 end x.1 refl)
         ]
 
     pub start_sound : (names : Names) → IsSound (start_clause inner d names) (ReadsStart names d)

@@ -16,7 +16,7 @@ use Rattle.cc_tree.specs.Views.{gathered}
 use Rattle.cc_tree.specs.Depth as depths
 use Rattle.cc_grammar.specs.Levels.{level, int_level, binary_level, binary_punct, assign_punct, step_punct}
 use Rattle.cc_grammar.specs.Names.{Names}
-use Rattle.cc_grammar.specs.Outline.{Outline, end, token, ◌▸◌, depth, deeper, Stands}
+use Rattle.cc_grammar.specs.Outline.{Outline, end, token, ◌▸◌, depth, deeper, FitsSpot}
 use Rattle.cc_grammar.specs.Outlines as outlines
 use Rattle.cc_grammar.specs.Classes.{skip, spot, Tail, goes_binary, goes_assign, goes_question, goes_comma, goes_call, goes_index, goes_dot, goes_arrow, goes_step, ends_here, tail, binds, left_level}
 use Rattle.cc_grammar.specs.Outcomes.{and_then, take, ◌>>◌, pure, ◌<$>◌}
@@ -70,7 +70,7 @@ module _ (names : Names) (inner : Inner) (d : ℕ) (good : SoundInner names inne
   Made least ts y = (least ≤ level y.0) × Reads (outlines.expr names y.0) d ts y.1
 
   -- the token of a tail, then what comes after it
-  behind : (w : TokenKind) (n : Option Spot) (i : Outline) (ts r : List Token) → tail_token (tail ts) ≡ Some w → Stands n (spot ts) → Reads i d (skip ts) r → Reads (token (Unit {0}) w n i) d ts r
+  behind : (w : TokenKind) (n : Option Spot) (i : Outline) (ts r : List Token) → tail_token (tail ts) ≡ Some w → FitsSpot n (spot ts) → Reads i d (skip ts) r → Reads (token (Unit {0}) w n i) d ts r
   behind w n i ts r e at x = kind_reads (Unit {0}) w n i d ts r (tail_next w ts e) tt at x
 
   choice_sound : (left : ExprTree Spot) (first ts : List Token) (x : ExprTree Spot × List Token) → tail ts ≡ goes_question → 4 ≤ level left → ReadsExpr names d left first ts

@@ -14,7 +14,7 @@ use Rattle.cc_parse_laws.proofs.Spans.{Reads}
 use Rattle.cc_parse_laws.proofs.Steps.{bind_ok, map_ok, ok_is, branched, next_reads}
 use Rattle.cc_parse_laws.proofs.Lists.{IsSound}
 use Rattle.cc_parse_laws.proofs.Inner.{SoundInner, ReadsDeclarator}
-use Rattle.cc_parse_laws.proofs.Endings.{Gives, taken}
+use Rattle.cc_parse_laws.proofs.Endings.{ReadsTo, taken}
 use Rattle.cc_parse_laws.proofs.SoundValues.{ReadsGiven, given_sound}
 
 -- one declarator or more, each with its initialiser or none
@@ -86,9 +86,9 @@ module _ (readers_sound : (names : Names) (d : ℕ) → SoundInner names (reader
       elim (branched (next_is the_punct.Semicolon a.0.1) (skipping (pure (declaration n a.0.0 []))) (rest a.0.0) a.0.1 (Ok x) a.2) [
         | inl c ↦
             let semicolon : Reads (outlines.punct the_punct.Semicolon ▸ end) d a.0.1 (skip a.0.1) = next_reads the_punct.Semicolon None end d a.0.1 (skip a.0.1) c.0 tt refl in
-            subst (Gives (ReadsDeclaration names d) ts) (ok_is (declaration n a.0.0 [], skip a.0.1) x c.1)
+            subst (ReadsTo (ReadsDeclaration names d) ts) (ok_is (declaration n a.0.0 [], skip a.0.1) x c.1)
             (specs.0, (a.0.1, tt, specs.1, (a.0.1, tt, refl, semicolon)))
         | inr c ↦
             let s = declares_sound d names n a.0.0 a.0.1 x c.1 in
-            subst (Gives (ReadsDeclaration names d) ts) s.1 (specs.0, (a.0.1, tt, specs.1, s.2))
+            subst (ReadsTo (ReadsDeclaration names d) ts) s.1 (specs.0, (a.0.1, tt, specs.1, s.2))
       ]

@@ -9,7 +9,7 @@ use Rattle.cc_tree.specs.Trees.{ExprOption, no_expr, an_expr, DeclTree, declared
 use Rattle.cc_tree.specs.Views.{gathered_types}
 use Rattle.cc_tree.specs.Depth as depths
 use Rattle.cc_grammar.specs.Names.{Names}
-use Rattle.cc_grammar.specs.Outline.{Outline, end, part, ◌▸◌, Stands}
+use Rattle.cc_grammar.specs.Outline.{Outline, end, part, ◌▸◌, FitsSpot}
 use Rattle.cc_grammar.specs.Outlines as outlines
 use Rattle.cc_grammar.specs.Classes.{next_is, next_is_keyword, skip, spot, next_ident}
 use Rattle.cc_grammar.specs.Outcomes.{Parser, take, ◌>>=◌, ◌>>◌, pure, ◌<$>◌, refuse}
@@ -33,7 +33,7 @@ has_spot (array m f length) n = refl
 has_spot (function m f ps) n = refl
 has_spot (grouped m f) n = refl
 
-suffix_stands : (f : DeclTree Spot) (n : Spot) → Stands (outlines.suffix_spot f (spot_or f n)) n
+pub suffix_stands : (f : DeclTree Spot) (n : Spot) → FitsSpot (outlines.suffix_spot f (spot_or f n)) n
 suffix_stands (declared m x) n = tt
 suffix_stands nameless n = refl
 suffix_stands (pointer m c f) n = tt
@@ -41,34 +41,34 @@ suffix_stands (array m f length) n = tt
 suffix_stands (function m f ps) n = tt
 suffix_stands (grouped m f) n = tt
 
-closes_over : (f : DeclTree Spot) (n : Spot) → outlines.ClosesOver f (opening f n)
+pub closes_over : (f : DeclTree Spot) (n : Spot) → outlines.ClosesOver f (opening f n)
 closes_over f n e =
     let same : opening f n ≡ spot_or f n = rw e refl in
     subst (outlines.HasSpot f) (sym same) (has_spot f n)
 
-opening_stands : (f : DeclTree Spot) (n : Spot) → Stands (outlines.opening_spot f (opening f n)) n
+pub opening_stands : (f : DeclTree Spot) (n : Spot) → FitsSpot (outlines.opening_spot f (opening f n)) n
 opening_stands f n = by (outlines.is_named f) refl
   where
-    by : (b : Bool) → outlines.is_named f ≡ b → Stands (outlines.opening_spot f (opening f n)) n
+    by : (b : Bool) → outlines.is_named f ≡ b → FitsSpot (outlines.opening_spot f (opening f n)) n
     by true e =
         let none : outlines.opening_spot f (opening f n) ≡ None = rw e refl in
-        subst (λ s. Stands s n) (sym none) tt
+        subst (λ s. FitsSpot s n) (sym none) tt
     by false e =
         let some : outlines.opening_spot f (opening f n) ≡ Some n = rw e refl in
-        subst (λ s. Stands s n) (sym some) refl
+        subst (λ s. FitsSpot s n) (sym some) refl
 
 -- ---- Names
 
 -- a form with a name where the other has one suits where that one does
-suits_too : (mode : Mode) (f g : DeclTree Spot) → outlines.is_named g ≡ outlines.is_named f → Suits mode f → Suits mode g
+pub suits_too : (mode : Mode) (f g : DeclTree Spot) → outlines.is_named g ≡ outlines.is_named f → Suits mode f → Suits mode g
 suits_too with_name f g e s = e ∙ s
 suits_too without_name f g e s = e ∙ s
 suits_too with_or_without f g e s = tt
 
-suits_pointer : (mode : Mode) (n : Spot) (c : ℕ) (f : DeclTree Spot) → Suits mode f → Suits mode (pointer n c f)
+pub suits_pointer : (mode : Mode) (n : Spot) (c : ℕ) (f : DeclTree Spot) → Suits mode f → Suits mode (pointer n c f)
 suits_pointer mode n c f s = suits_too mode f (pointer n c f) refl s
 
-suits_grouped : (mode : Mode) (n : Spot) (f : DeclTree Spot) → Suits mode f → Suits mode (grouped n f)
+pub suits_grouped : (mode : Mode) (n : Spot) (f : DeclTree Spot) → Suits mode f → Suits mode (grouped n f)
 suits_grouped mode n f s = suits_too mode f (grouped n f) refl s
 
 suits_named : (mode : Mode) (f : DeclTree Spot) → takes_name mode ≡ true → outlines.is_named f ≡ true → Suits mode f
@@ -81,12 +81,12 @@ suits_nameless with_name e = absurd cc
 suits_nameless without_name e = refl
 suits_nameless with_or_without e = tt
 
-other_of : (a b : Bool) → (a || b) ≡ true → a ≡ false → b ≡ true
+pub other_of : (a b : Bool) → (a || b) ≡ true → a ≡ false → b ≡ true
 other_of true b e f = absurd cc
 other_of false b e f = e
 
 -- a declarator without a star, of this depth with itself
-abbrev Direct : Names → ℕ → Mode → List Token → DeclTree Spot × List Token → Type 0
+abbrev pub Direct : Names → ℕ → Mode → List Token → DeclTree Spot × List Token → Type 0
 Direct names d mode ts y = Suits mode y.0 × (outlines.is_direct y.0 ≡ true) × ReadsDeclarator names d y.0 ts y.1
 
 -- where nothing is written, at any depth
@@ -97,7 +97,7 @@ nothing_sound names inner d mode ts x e =
       | inr c ↦ subst (Direct names d mode ts) (ok_is (nameless, ts) x c.1) (suits_nameless mode c.0, refl, refl)
     ]
 
-consts_by_sound : (names : Names) (inner : Inner) (d e turns : ℕ) (ts : List Token) (x : ℕ × List Token) → reader.consts_by names inner d turns ts ≡ Ok x → Reads (outlines.consts x.0) e ts x.1
+pub consts_by_sound : (names : Names) (inner : Inner) (d e turns : ℕ) (ts : List Token) (x : ℕ × List Token) → reader.consts_by names inner d turns ts ≡ Ok x → Reads (outlines.consts x.0) e ts x.1
 consts_by_sound names inner d e zero ts x f = subst (λ (y : ℕ × List Token). Reads (outlines.consts y.0) e ts y.1) (ok_is (0, ts) x f) refl
 consts_by_sound names inner d e (suc turns) ts x f =
     elim (branched (next_is_keyword the_keyword.Const ts) (skipping ((λ c. c + 1) <$> reader.consts_by names inner d turns)) (pure 0) ts (Ok x) f) [
@@ -171,7 +171,7 @@ module _ (names : Names) (inner : Inner) (d : ℕ) (good : SoundInner names inne
         ),
       )
 
-  suffix_sound : (mode : Mode) (left : DeclTree Spot) (first ts : List Token) (x : DeclTree Spot × List Token) → Direct names d mode first (left, ts) → reader.suffix_comes names inner (suc d) ts ≡ true
+  pub suffix_sound : (mode : Mode) (left : DeclTree Spot) (first ts : List Token) (x : DeclTree Spot × List Token) → Direct names d mode first (left, ts) → reader.suffix_comes names inner (suc d) ts ≡ true
       → reader.suffix names inner (suc d) left ts ≡ Ok x → Direct names (suc d) mode first x
   suffix_sound mode left first ts x a comes e =
       let n = spot_or left (spot ts) in
@@ -227,7 +227,7 @@ module _ (names : Names) (inner : Inner) (d : ℕ) (good : SoundInner names inne
         | inr w ↦ absurd (let no : Err f.0.1 ≡ Ok a.0 = w.1 in cc)
       ]
 
-  direct_sound : (mode : Mode) (ts : List Token) (x : DeclTree Spot × List Token) → reader.direct names inner (suc d) mode ts ≡ Ok x → Direct names (suc d) mode ts x
+  pub direct_sound : (mode : Mode) (ts : List Token) (x : DeclTree Spot × List Token) → reader.direct names inner (suc d) mode ts ≡ Ok x → Direct names (suc d) mode ts x
   direct_sound mode ts x e =
       let some : Bool = reader.is_id names inner (suc d) (next_ident ts) in
       let ends : Bool = opposite (reader.begins_parameters names inner (suc d) mode ts) in

@@ -123,7 +123,7 @@ module _ (names : Names) (inner : Inner) (d : ℕ) (good : SoundInner names inne
         ]
       ]
 
-  prefix_sound : (least : ℕ) (b : Start) (ts : List Token) (x : ExprTree Spot × List Token) → start ts ≡ b → least ≤ 15 → reader.prefix names inner (suc d) least b (spot ts) ts ≡ Ok x → Whole least ts x
+  pub prefix_sound : (least : ℕ) (b : Start) (ts : List Token) (x : ExprTree Spot × List Token) → start ts ≡ b → least ≤ 15 → reader.prefix names inner (suc d) least b (spot ts) ts ≡ Ok x → Whole least ts x
   prefix_sound least (begins_name y) ts x s l e =
       let m = map_ok (id names ts) (name (spot ts)) x e in
       subst (Whole least ts) m.2 (omega (arith, l), id_reads names (Some (spot ts)) end d ts m.0.1 m.0 m.1 refl refl)

@@ -28,7 +28,7 @@ enclosed_ends P xs false d ts r x = (x.0, x.1, (x.0, tt, refl, next_reads the_pu
 module _ (names : Names) (inner : Inner) (d : ℕ) (good : SoundInner names inner d) where
   -- ---- Members
 
-  abbrev Named : DeclTree Spot → List Token → List Token → Type 0
+  abbrev pub Named : DeclTree Spot → List Token → List Token → Type 0
   Named f ts r = (outlines.is_named f ≡ true) × ReadsDeclarator names d f ts r
 
   other_declarators : (fs : List (DeclTree Spot)) (ts r : List Token) → Others Named fs ts r → Reads (outlines.more_of_them names (gathered_declarators fs)) d ts r
@@ -36,11 +36,11 @@ module _ (names : Names) (inner : Inner) (d : ℕ) (good : SoundInner names inne
   other_declarators (f ∷ fs) ts r x =
       next_reads the_punct.Comma None (outlines.named_one f (outlines.declarator names f) ▸ outlines.within (outlines.more_of_them names (gathered_declarators fs)) ▸ end) d ts r x.1 tt (x.0, x.2.0, x.2.1, (r, tt, other_declarators fs x.0 r x.3, refl))
 
-  some_declarators : (fs : List (DeclTree Spot)) (ts r : List Token) → Separated Named fs ts r → outlines.HasDeclarators (gathered_declarators fs) × Reads (outlines.declarators names (gathered_declarators fs)) d ts r
+  pub some_declarators : (fs : List (DeclTree Spot)) (ts r : List Token) → Separated Named fs ts r → outlines.HasDeclarators (gathered_declarators fs) × Reads (outlines.declarators names (gathered_declarators fs)) d ts r
   some_declarators [] ts r x = absurd x
   some_declarators (f ∷ fs) ts r x = (tt, (x.0, x.1.0, x.1.1, (r, tt, other_declarators fs x.0 r x.2, refl)))
 
-  abbrev Line : MemberTree Spot → List Token → List Token → Type 0
+  abbrev pub Line : MemberTree Spot → List Token → List Token → Type 0
   Line m ts r = Reads (outlines.member_line names m) d ts r
 
   line_reads : (n : Spot) (ss : SpecTrees Spot) (fs : List (DeclTree Spot)) (ts m u r : List Token) → outlines.BeginAt ss n → Reads (outlines.specs names ss) d ts m → Separated Named fs m u → Reads (outlines.punct the_punct.Semicolon ▸ end) d u r
@@ -49,7 +49,7 @@ module _ (names : Names) (inner : Inner) (d : ℕ) (good : SoundInner names inne
       let v = some_declarators fs m u y in
       (r, b, (m, tt, x, (u, v.0, v.1, z)), refl)
 
-  member_line_sound : (ts : List Token) (x : MemberTree Spot × List Token) → reader.member_line names inner (suc d) ts ≡ Ok x → Line x.0 ts x.1
+  pub member_line_sound : (ts : List Token) (x : MemberTree Spot × List Token) → reader.member_line names inner (suc d) ts ≡ Ok x → Line x.0 ts x.1
   member_line_sound ts x e =
       let n = spot ts in
       let ss = bind_ok (inner.specs ts) (λ ss. separated (inner.declarator with_name) >>= (λ fs. take the_punct.Semicolon >> pure (members n ss (gathered_declarators fs)))) x e in
@@ -60,7 +60,7 @@ module _ (names : Names) (inner : Inner) (d : ℕ) (good : SoundInner names inne
       subst (λ (y : MemberTree Spot × List Token). Line y.0 ts y.1) {x = (members n ss.0.0 (gathered_declarators fs.0.0), c.0.1)} c.2
       (line_reads n ss.0.0 fs.0.0 ts ss.0.1 fs.0.1 c.0.1 u.0 u.1 v (take_last the_punct.Semicolon d fs.0.1 c.0 c.1))
 
-  other_lines : (more : List Token → Bool) (ms : List (MemberTree Spot)) (ts r : List Token) → Following more Line ms ts r → Reads (outlines.member_lines names (gathered_members ms)) d ts r
+  pub other_lines : (more : List Token → Bool) (ms : List (MemberTree Spot)) (ts r : List Token) → Following more Line ms ts r → Reads (outlines.member_lines names (gathered_members ms)) d ts r
   other_lines more [] ts r x = x
   other_lines more (m ∷ ms) ts r x = (x.0, tt, x.2, (r, tt, other_lines more ms x.0 r x.3, refl))
 
@@ -101,10 +101,10 @@ module _ (names : Names) (inner : Inner) (d : ℕ) (good : SoundInner names inne
         | inr c ↦ subst (λ (y : ExprOption Spot × List Token). Reads (outlines.constant_value names y.0) d ts y.1) (ok_is (no_expr, ts) x c.1) refl
       ]
 
-  abbrev One : ConstantTree Spot → List Token → List Token → Type 0
+  abbrev pub One : ConstantTree Spot → List Token → List Token → Type 0
   One c ts r = Reads (outlines.constant_of names c) d ts r
 
-  one_constant_sound : (ts : List Token) (x : ConstantTree Spot × List Token) → reader.one_constant names inner (suc d) ts ≡ Ok x → One x.0 ts x.1
+  pub one_constant_sound : (ts : List Token) (x : ConstantTree Spot × List Token) → reader.one_constant names inner (suc d) ts ≡ Ok x → One x.0 ts x.1
   one_constant_sound ts x e =
       let y = bind_ok (id names ts) (λ y. constant (spot ts) y <$> reader.constant_value names inner (suc d)) x e in
       let v = map_ok (reader.constant_value names inner (suc d) y.0.1) (constant (spot ts) y.0.0) x y.2 in
@@ -112,7 +112,7 @@ module _ (names : Names) (inner : Inner) (d : ℕ) (good : SoundInner names inne
       subst (λ (z : ConstantTree Spot × List Token). One z.0 ts z.1) {x = (constant (spot ts) y.0.0 v.0.0, v.0.1)} v.2
       (id_reads names (Some (spot ts)) (outlines.within (outlines.constant_value names v.0.0) ▸ end) d ts v.0.1 y.0 y.1 refl (v.0.1, tt, u, refl))
 
-  other_constants : (cs : List (ConstantTree Spot)) (ts r : List Token) → Others One cs ts r → Reads (outlines.more_constants_of names (gathered_constants cs)) d ts r
+  pub other_constants : (cs : List (ConstantTree Spot)) (ts r : List Token) → Others One cs ts r → Reads (outlines.more_constants_of names (gathered_constants cs)) d ts r
   other_constants [] ts r x = x
   other_constants (c ∷ cs) ts r x =
       next_reads the_punct.Comma None (outlines.within (outlines.constant_of names c) ▸ outlines.within (outlines.more_constants_of names (gathered_constants cs)) ▸ end) d ts r x.1 tt (x.0, tt, x.2, (r, tt, other_constants cs x.0 r x.3, refl))

@@ -9,7 +9,7 @@ use Rattle.cc_lex.specs.declared.keyword.Keyword.TheVariants as the_keyword
 use Rattle.cc_lex.specs.declared.punct.Punct.TheVariants as the_punct
 use Rattle.cc_tree.specs.Trees.{Name, SpecTree, word, named, struct, enum, SpecTrees, MemberTrees, no_members, more_members, ConstantTrees, no_constants, more_constants}
 use Rattle.cc_tree.specs.Views.{gathered_specs, gathered_members, gathered_constants}
-use Rattle.cc_grammar.specs.Levels.{spec_keyword}
+use Rattle.cc_grammar.specs.Levels.{word_keyword}
 use Rattle.cc_grammar.specs.Names.{Names, is_type}
 use Rattle.cc_grammar.specs.Outline.{Outline, end, token, ◌▸◌}
 use Rattle.cc_grammar.specs.Outlines as outlines
@@ -32,7 +32,7 @@ abbrev pub HasConstants : ConstantTrees Spot → Type 0
 HasConstants no_constants = ⊥
 HasConstants (more_constants c cs) = Unit {0}
 
-struct_with_members : (n : Spot) (tag : Option Name) (ms : MemberTrees Spot) → HasMembers ms → outlines.IsShaped (struct n tag ms)
+pub struct_with_members : (n : Spot) (tag : Option Name) (ms : MemberTrees Spot) → HasMembers ms → outlines.IsShaped (struct n tag ms)
 struct_with_members n None no_members h = absurd h
 struct_with_members n None (more_members m ms) h = tt
 struct_with_members n (Some x) ms h = tt
@@ -41,7 +41,7 @@ struct_with_tag : (names : Names) (inner : reader.Inner) (d : ℕ) (n : Spot) (t
 struct_with_tag names inner d n None e = absurd cc
 struct_with_tag names inner d n (Some x) e = tt
 
-enum_with_constants : (n : Spot) (tag : Option Name) (cs : ConstantTrees Spot) (last : Bool) → HasConstants cs → outlines.IsShaped (enum n tag cs last)
+pub enum_with_constants : (n : Spot) (tag : Option Name) (cs : ConstantTrees Spot) (last : Bool) → HasConstants cs → outlines.IsShaped (enum n tag cs last)
 enum_with_constants n tag no_constants last h = absurd h
 enum_with_constants n None (more_constants c cs) last h = tt
 enum_with_constants n (Some x) (more_constants c cs) last h = tt
@@ -60,13 +60,13 @@ abbrev pub ConstantsSound : Names → Inner → ℕ → Type 0
 ConstantsSound names inner d = IsSound (reader.constant_list names inner d) (λ cs ts r. HasConstants (gathered_constants cs.0) × Reads (outlines.constant_list names (gathered_constants cs.0) cs.1) d ts r)
 
 module _ (names : Names) (inner : Inner) (d : ℕ) (members_sound : MembersSound names inner d) (constants_sound : ConstantsSound names inner d) where
-  abbrev SpecAt : SpecTree Spot → List Token → List Token → Type 0
+  abbrev pub SpecAt : SpecTree Spot → List Token → List Token → Type 0
   SpecAt s ts r = (spot ts ≡ outlines.spec_spot s) × Reads (outlines.spec names s) d ts r
 
   opens : (h : Type 0) (w : TokenKind) (i : Outline) (ts r : List Token) → spec_token (spec_start names ts) ≡ Some w → h → Reads i d (skip ts) r → Reads (token h w (Some (spot ts)) i) d ts r
   opens h w i ts r e a x = kind_reads h w (Some (spot ts)) i d ts r (spec_next names w ts e) a refl x
 
-  tag_sound : (ts : List Token) (x : Option Name × List Token) → reader.tag names inner d ts ≡ Ok x → Reads (outlines.tag_of x.0) d ts x.1
+  pub tag_sound : (ts : List Token) (x : Option Name × List Token) → reader.tag names inner d ts ≡ Ok x → Reads (outlines.tag_of x.0) d ts x.1
   tag_sound ts x e = by (next_ident ts) refl e
     where
       by : (y : Option Name) → next_ident ts ≡ y → reader.tag_by names inner d y ts ≡ Ok x → Reads (outlines.tag_of x.0) d ts x.1
@@ -142,10 +142,10 @@ module _ (names : Names) (inner : Inner) (d : ℕ) (members_sound : MembersSound
             )
       ]
 
-  spec_by_sound : (s : SpecStart) (ts : List Token) (x : SpecTree Spot × List Token) → spec_start names ts ≡ s → reader.spec_by names inner d s (spot ts) ts ≡ Ok x → SpecAt x.0 ts x.1
+  pub spec_by_sound : (s : SpecStart) (ts : List Token) (x : SpecTree Spot × List Token) → spec_start names ts ≡ s → reader.spec_by names inner d s (spot ts) ts ≡ Ok x → SpecAt x.0 ts x.1
   spec_by_sound (spec_word w) ts x s e =
       subst (λ (y : SpecTree Spot × List Token). SpecAt y.0 ts y.1) (ok_is (word (spot ts) w, skip ts) x e)
-      (refl, opens (Unit {0}) (kind.Keyword (spec_keyword w)) end ts (skip ts) (ap spec_token s) tt refl)
+      (refl, opens (Unit {0}) (kind.Keyword (word_keyword w)) end ts (skip ts) (ap spec_token s) tt refl)
   spec_by_sound (spec_named y) ts x s e =
       subst (λ (z : SpecTree Spot × List Token). SpecAt z.0 ts z.1) (ok_is (named (spot ts) y, skip ts) x e)
       (refl, opens (is_type names y ≡ true) (kind.Identifier y) end ts (skip ts) (ap spec_token s) (spec_is_named names y ts s) refl)

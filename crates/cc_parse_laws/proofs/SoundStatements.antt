@@ -20,7 +20,7 @@ use Rattle.cc_parse_laws.proofs.Steps.{bind_ok, map_ok, ok_is, branched, next_re
 use Rattle.cc_parse_laws.proofs.Lists.{IsSound}
 use Rattle.cc_parse_laws.proofs.Inner.{SoundInner}
 use Rattle.cc_parse_laws.proofs.Begins.{Opens, opens}
-use Rattle.cc_parse_laws.proofs.Endings.{Gives, Leads, taken, last_part}
+use Rattle.cc_parse_laws.proofs.Endings.{ReadsTo, Leads, taken, last_part}
 use Rattle.cc_parse_laws.proofs.SoundClauses.{expr_then, condition_sound, clause_sound, start_sound}
 use Rattle.cc_parse_laws.proofs.SoundBlocks.{ReadsStmt, body_sound, items_sound}
 
@@ -58,10 +58,10 @@ module _ (readers_sound : (names : Names) (d : ℕ) → SoundInner names (reader
               let second = inner_sound (after_stmt s names) (skip ts) m.0 m.1 in
               let branches = outlines.within (outlines.stmt names s) ▸ token (outlines.is_open s ≡ false) (kind.Keyword the_keyword.Else) None ▸ outlines.within (outlines.stmt (after_stmt s names) m.0.0) ▸ end in
               let other = else_reads (outlines.is_open s ≡ false) (outlines.within (outlines.stmt (after_stmt s names) m.0.0) ▸ end) d ts m.0.1 (shut (outlines.is_open s) (next_is_keyword the_keyword.Else ts) first.closed b.0) b.0 (m.0.1, tt, second.there, refl) in
-              subst (Gives (ReadsStmt names (suc d)) from) m.2
+              subst (ReadsTo (ReadsStmt names (suc d)) from) m.2
               (record { there = (m.0.1, tt, before branches m.0.1 (ts, tt, first.there, other), refl); closed = second.closed })
           | inr b ↦
-              subst (Gives (ReadsStmt names (suc d)) from) (ok_is (if_then n c s, ts) x b.1)
+              subst (ReadsTo (ReadsStmt names (suc d)) from) (ok_is (if_then n c s, ts) x b.1)
               (record { there = (ts, tt, before (outlines.within (outlines.stmt names s) ▸ end) ts (ts, tt, first.there, refl), refl); closed = λ h. b.0 })
         ]
 
@@ -69,12 +69,12 @@ module _ (readers_sound : (names : Names) (d : ℕ) → SoundInner names (reader
     block_sound names ts x opening e =
         let m = map_ok (items inner d names (skip ts)) (λ is. compound (block (spot ts) (gathered_items is))) x e in
         let s = items_sound readers_sound inner d inner_sound names (skip ts) m.0 m.1 in
-        subst (Gives (ReadsStmt names (suc d)) ts) m.2
+        subst (ReadsTo (ReadsStmt names (suc d)) ts) m.2
         (record { there = (m.0.1, tt, next_reads the_punct.LeftBrace (Some (spot ts)) (outlines.within (outlines.items names (gathered_items m.0.0)) ▸ outlines.punct the_punct.RightBrace ▸ end) d ts m.0.1 opening refl s, refl); closed = λ h. absurd cc })
 
     empty_sound : (names : Names) (ts : List Token) (x : StmtTree Spot × List Token) → next_is the_punct.Semicolon ts ≡ true → stmt_by inner d begins_empty names (spot ts) ts ≡ Ok x → ReadsStmt names (suc d) x.0 ts x.1
     empty_sound names ts x opening e =
-        subst (Gives (ReadsStmt names (suc d)) ts) (ok_is (empty (spot ts), skip ts) x e)
+        subst (ReadsTo (ReadsStmt names (suc d)) ts) (ok_is (empty (spot ts), skip ts) x e)
         (record { there = (skip ts, tt, next_reads the_punct.Semicolon (Some (spot ts)) end d ts (skip ts) opening refl refl, refl); closed = λ h. absurd cc })
 
     if_sound : (names : Names) (ts : List Token) (x : StmtTree Spot × List Token) → next_is_keyword the_keyword.If ts ≡ true → stmt_by inner d begins_if names (spot ts) ts ≡ Ok x → ReadsStmt names (suc d) x.0 ts x.1
@@ -93,7 +93,7 @@ module _ (readers_sound : (names : Names) (d : ℕ) → SoundInner names (reader
         let test = condition_sound readers_sound inner d names (skip ts) a.0 a.1 in
         let inside = body_sound readers_sound inner d inner_sound names a.0.1 m.0 m.1 in
         let last = outlines.within (outlines.block_of names m.0.0) ▸ end in
-        subst (Gives (ReadsStmt names (suc d)) ts) m.2
+        subst (ReadsTo (ReadsStmt names (suc d)) ts) m.2
         (record { there = (m.0.1, tt, next_keyword_reads the_keyword.Switch (Some (spot ts)) (outlines.punct the_punct.LeftParen ▸ outlines.operand 1 a.0.0 (outlines.expr names a.0.0) ▸ outlines.punct the_punct.RightParen ▸ last) d ts m.0.1 opening refl (test last m.0.1 (m.0.1, tt, inside, refl)), refl); closed = λ h. absurd cc })
 
     while_sound : (names : Names) (ts : List Token) (x : StmtTree Spot × List Token) → next_is_keyword the_keyword.While ts ≡ true → stmt_by inner d begins_while names (spot ts) ts ≡ Ok x → ReadsStmt names (suc d) x.0 ts x.1
@@ -103,7 +103,7 @@ module _ (readers_sound : (names : Names) (d : ℕ) → SoundInner names (reader
         let test = condition_sound readers_sound inner d names (skip ts) a.0 a.1 in
         let inside = inner_sound names a.0.1 m.0 m.1 in
         let last = outlines.within (outlines.stmt names m.0.0) ▸ end in
-        subst (Gives (ReadsStmt names (suc d)) ts) m.2
+        subst (ReadsTo (ReadsStmt names (suc d)) ts) m.2
         (record { there = (m.0.1, tt, next_keyword_reads the_keyword.While (Some (spot ts)) (outlines.punct the_punct.LeftParen ▸ outlines.operand 1 a.0.0 (outlines.expr names a.0.0) ▸ outlines.punct the_punct.RightParen ▸ last) d ts m.0.1 opening refl (test last m.0.1 (m.0.1, tt, inside.there, refl)), refl); closed = inside.closed })
 
     do_sound : (names : Names) (ts : List Token) (x : StmtTree Spot × List Token) → next_is_keyword the_keyword.Do ts ≡ true → stmt_by inner d begins_do names (spot ts) ts ≡ Ok x → ReadsStmt names (suc d) x.0 ts x.1
@@ -118,7 +118,7 @@ module _ (readers_sound : (names : Names) (d : ℕ) → SoundInner names (reader
         let t = taken the_punct.Semicolon (do_loop (spot ts) a.0.0 b.0.0) d b.0.1 x b.2 in
         let last = outlines.punct the_punct.LeftParen ▸ outlines.operand 1 b.0.0 (outlines.expr later b.0.0) ▸ outlines.punct the_punct.RightParen ▸ outlines.punct the_punct.Semicolon ▸ end in
         let loops : Reads (outlines.keyword the_keyword.While ▸ last) d a.0.1 x.1 = take_keyword_reads the_keyword.While last d a.0.1 x.1 w.0 w.1 (test (outlines.punct the_punct.Semicolon ▸ end) x.1 (t.1 end x.1 refl)) in
-        subst (Gives (ReadsStmt names (suc d)) ts) t.0
+        subst (ReadsTo (ReadsStmt names (suc d)) ts) t.0
         (record { there = (x.1, tt, next_keyword_reads the_keyword.Do (Some (spot ts)) (outlines.within (outlines.stmt names a.0.0) ▸ outlines.keyword the_keyword.While ▸ last) d ts x.1 opening refl (a.0.1, tt, first.there, loops), refl); closed = λ h. absurd cc })
 
     -- behind the last clause of a `for`
@@ -131,7 +131,7 @@ module _ (readers_sound : (names : Names) (d : ℕ) → SoundInner names (reader
         let inside = inner_sound later a.0.1 m.0 m.1 in
         let last = outlines.within (outlines.stmt later m.0.0) ▸ end in
         let closes : Reads (outlines.punct the_punct.RightParen ▸ last) d ts m.0.1 = take_reads the_punct.RightParen last d ts m.0.1 a.0 a.1 (last_part (outlines.stmt later m.0.0) d a.0.1 m.0.1 inside.there) in
-        subst (Gives (ReadsStmt names (suc d)) from) m.2 (record { there = (m.0.1, tt, before (outlines.punct the_punct.RightParen ▸ last) m.0.1 closes, refl); closed = inside.closed })
+        subst (ReadsTo (ReadsStmt names (suc d)) from) m.2 (record { there = (m.0.1, tt, before (outlines.punct the_punct.RightParen ▸ last) m.0.1 closes, refl); closed = inside.closed })
 
     -- behind the second clause
     each_sound : (names : Names) (n : Spot) (start : StartTree Spot) (test : Option (ExprTree Spot)) (from ts : List Token) (x : StmtTree Spot × List Token) → Leads (for_test names n start test) d from ts
@@ -169,7 +169,7 @@ module _ (readers_sound : (names : Names) (d : ℕ) → SoundInner names (reader
         let a = bind_ok (clause_until inner d names (next_is the_punct.Semicolon) (skip ts)) (λ c. take the_punct.Semicolon >> pure (return (spot ts) c)) x e in
         let s = clause_sound readers_sound inner d names (next_is the_punct.Semicolon) (skip ts) a.0 a.1 in
         let t = taken the_punct.Semicolon (return (spot ts) a.0.0) d a.0.1 x a.2 in
-        subst (Gives (ReadsStmt names (suc d)) ts) t.0
+        subst (ReadsTo (ReadsStmt names (suc d)) ts) t.0
         (record { there = (x.1, tt, next_keyword_reads the_keyword.Return (Some (spot ts)) (outlines.within (outlines.clause names a.0.0) ▸ outlines.punct the_punct.Semicolon ▸ end) d ts x.1 opening refl (a.0.1, tt, s, t.1 end x.1 refl), refl); closed = λ h. absurd cc })
 
     -- a keyword and a semicolon
@@ -182,7 +182,7 @@ module _ (readers_sound : (names : Names) (d : ℕ) → SoundInner names (reader
     other_sound : (names : Names) (ts : List Token) (x : StmtTree Spot × List Token) → stmt_by inner d begins_other names (spot ts) ts ≡ Ok x → ReadsStmt names (suc d) x.0 ts x.1
     other_sound names ts x e =
         let s = expr_then readers_sound names d 1 (omega arith) the_punct.Semicolon (plain (spot ts)) ts x e in
-        subst (Gives (ReadsStmt names (suc d)) ts) s.1
+        subst (ReadsTo (ReadsStmt names (suc d)) ts) s.1
         (record { there = (x.1, sym s.3, s.2 end x.1 refl, refl); closed = λ h. absurd cc })
 
     by_sound : (b : StmtStart) (names : Names) (ts : List Token) (x : StmtTree Spot × List Token) → Opens b ts → stmt_by inner d b names (spot ts) ts ≡ Ok x → ReadsStmt names (suc d) x.0 ts x.1
@@ -195,10 +195,10 @@ module _ (readers_sound : (names : Names) (d : ℕ) → SoundInner names (reader
     by_sound begins_for names ts x opening e = for_sound names ts x opening e
     by_sound begins_break names ts x opening e =
         let j = jump_sound the_keyword.Break (break (spot ts)) names ts x opening e in
-        subst (Gives (ReadsStmt names (suc d)) ts) j.0 (record { there = j.1; closed = λ h. absurd cc })
+        subst (ReadsTo (ReadsStmt names (suc d)) ts) j.0 (record { there = j.1; closed = λ h. absurd cc })
     by_sound begins_continue names ts x opening e =
         let j = jump_sound the_keyword.Continue (continue (spot ts)) names ts x opening e in
-        subst (Gives (ReadsStmt names (suc d)) ts) j.0 (record { there = j.1; closed = λ h. absurd cc })
+        subst (ReadsTo (ReadsStmt names (suc d)) ts) j.0 (record { there = j.1; closed = λ h. absurd cc })
     by_sound begins_return names ts x opening e = return_sound names ts x opening e
     by_sound begins_case names ts x opening e = absurd cc
     by_sound begins_default names ts x opening e = absurd cc

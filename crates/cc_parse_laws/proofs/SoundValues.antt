@@ -15,7 +15,7 @@ use Rattle.cc_parse_laws.proofs.Spans.{Reads}
 use Rattle.cc_parse_laws.proofs.Steps.{map_ok, ok_is, branched, next_reads}
 use Rattle.cc_parse_laws.proofs.Lists.{IsSound, Others, Separated, Enclosed, Braced, enclosed_sound}
 use Rattle.cc_parse_laws.proofs.Inner.{SoundInner}
-use Rattle.cc_parse_laws.proofs.Endings.{Gives}
+use Rattle.cc_parse_laws.proofs.Endings.{ReadsTo}
 
 -- an initialiser, from some tokens to others
 abbrev pub ReadsValue : Names → ℕ → ValueTree Spot → List Token → List Token → Type 0
@@ -62,7 +62,7 @@ module _ (readers_sound : (names : Names) (d : ℕ) → SoundInner names (reader
   single_sound names d ts x e =
       let m = map_ok ((readers names d).expr 2 ts) single x e in
       let s = (readers_sound names d).expr 2 (omega arith) ts m.0 m.1 in
-      subst (Gives (ReadsValue names d) ts) m.2 (m.0.1, s.0, s.1, refl)
+      subst (ReadsTo (ReadsValue names d) ts) m.2 (m.0.1, s.0, s.1, refl)
 
   pub value_sound : (names : Names) (d : ℕ) → IsSound (value names d) (ReadsValue names d)
   value_sound names zero ts x e = absurd cc
@@ -71,7 +71,7 @@ module _ (readers_sound : (names : Names) (d : ℕ) → SoundInner names (reader
         | inl c ↦
             let m = map_ok (enclosed (value names d) ts) (λ (vs : List (ValueTree Spot) × Bool). braces (spot ts) (gathered_values vs.0) vs.1) x c.1 in
             let s = enclosed_sound (value names d) (ReadsValue names d) (value_sound names d) ts m.0 m.1 in
-            subst (Gives (ReadsValue names (suc d)) ts) m.2 (braced names d m.0.0.0 m.0.0.1 ts m.0.1 s)
+            subst (ReadsTo (ReadsValue names (suc d)) ts) m.2 (braced names d m.0.0.0 m.0.0.1 ts m.0.1 s)
         | inr c ↦ single_sound names (suc d) ts x c.1
       ]
 
@@ -81,7 +81,7 @@ module _ (readers_sound : (names : Names) (d : ℕ) → SoundInner names (reader
         | inl c ↦
             let m = map_ok (value names d (skip ts)) Some x c.1 in
             let s = value_sound names d (skip ts) m.0 m.1 in
-            subst (Gives (ReadsGiven names d) ts) m.2
+            subst (ReadsTo (ReadsGiven names d) ts) m.2
             (next_reads the_punct.Equal None (outlines.within (outlines.value names m.0.0) ▸ end) d ts m.0.1 c.0 tt (m.0.1, tt, s, refl))
-        | inr c ↦ subst (Gives (ReadsGiven names d) ts) (ok_is (None, ts) x c.1) refl
+        | inr c ↦ subst (ReadsTo (ReadsGiven names d) ts) (ok_is (None, ts) x c.1) refl
       ]

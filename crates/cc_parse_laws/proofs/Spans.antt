@@ -1,7 +1,7 @@
 -- What it means that tokens begin with an outline: one relation for spelling, order and depth together.
 use Rattle.std.proofs.Common.{◌≡◌, ◌≤◌, refl, ℕ, zero, suc, Bool, true, false, List, [], ◌∷◌, arith, sym, subst}
 use Rattle.cc_lex.specs.declared.token.Token.{Token}
-use Rattle.cc_grammar.specs.Outline.{Outline, end, token, part, Written, AllHold, depth, deeper, spell, Stands, Meets}
+use Rattle.cc_grammar.specs.Outline.{Outline, end, token, part, Written, AllHold, depth, deeper, spell, FitsSpot, Meets}
 
 -- a part that counts leaves one less of the depth to what is in it
 abbrev pub Inside : Bool → (ℕ → Type 0) → ℕ → Type 0
@@ -13,7 +13,7 @@ Inside true P (suc d) = P d
 abbrev pub Reads : Outline → ℕ → List Token → List Token → Type 0
 Reads end d ts r = ts ≡ r
 Reads (token h k s o) d [] r = ⊥
-Reads (token h k s o) d (t ∷ ts) r = h × (t.kind ≡ k) × Stands s t.spot × Reads o d ts r
+Reads (token h k s o) d (t ∷ ts) r = h × (t.kind ≡ k) × FitsSpot s t.spot × Reads o d ts r
 Reads (part c h i o) d ts r = (m : List Token) × h × Inside c (λ e. Reads i e ts m) d × Reads o d m r
 
 inside_depth : (c : Bool) (P : ℕ → Type 0) (n : ℕ) → ((e : ℕ) → P e → n ≤ e) → (d : ℕ) → Inside c P d → deeper c n ≤ d

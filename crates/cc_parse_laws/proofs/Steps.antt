@@ -9,7 +9,7 @@ use Rattle.cc_lex.specs.declared.keyword.Keyword.{Keyword}
 use Rattle.cc_lex.specs.contracts.keyword.Keyword as keywords
 use Rattle.cc_lex.specs.declared.punct.Punct.{Punct}
 use Rattle.cc_lex.specs.contracts.punct.Punct as puncts
-use Rattle.cc_grammar.specs.Outline.{Outline, end, token, part, size, Stands}
+use Rattle.cc_grammar.specs.Outline.{Outline, end, token, part, size, FitsSpot}
 use Rattle.cc_grammar.specs.Outlines.{punct, keyword}
 use Rattle.cc_grammar.specs.Classes.{is_punct, is_keyword, next_is, next_is_keyword, skip, spot}
 use Rattle.cc_grammar.specs.Outcomes.{Outcome, Parser, and_then, take, take_keyword}
@@ -71,11 +71,11 @@ pub kind_keyword : (w : Keyword) (k : TokenKind) → k ≡ kind.Keyword w → is
 kind_keyword w k e = ap (is_keyword w) e ∙ true_same keywords.the_type w w refl
 
 -- a punctuator that comes next is read
-pub next_reads : (s : Punct) (n : Option Spot) (o : Outline) (d : ℕ) (ts r : List Token) → next_is s ts ≡ true → Stands n (spot ts) → Reads o d (skip ts) r → Reads (token (Unit {0}) (kind.Punct s) n o) d ts r
+pub next_reads : (s : Punct) (n : Option Spot) (o : Outline) (d : ℕ) (ts r : List Token) → next_is s ts ≡ true → FitsSpot n (spot ts) → Reads o d (skip ts) r → Reads (token (Unit {0}) (kind.Punct s) n o) d ts r
 next_reads s n o d [] r e at x = absurd cc
 next_reads s n o d (t ∷ ts) r e at x = (tt, punct_kind s t.kind e, at, x)
 
-pub next_keyword_reads : (w : Keyword) (n : Option Spot) (o : Outline) (d : ℕ) (ts r : List Token) → next_is_keyword w ts ≡ true → Stands n (spot ts) → Reads o d (skip ts) r → Reads (token (Unit {0}) (kind.Keyword w) n o) d ts r
+pub next_keyword_reads : (w : Keyword) (n : Option Spot) (o : Outline) (d : ℕ) (ts r : List Token) → next_is_keyword w ts ≡ true → FitsSpot n (spot ts) → Reads o d (skip ts) r → Reads (token (Unit {0}) (kind.Keyword w) n o) d ts r
 next_keyword_reads w n o d [] r e at x = absurd cc
 next_keyword_reads w n o d (t ∷ ts) r e at x = (tt, keyword_kind w t.kind e, at, x)
 
@@ -114,7 +114,7 @@ pub record Next (h : Type 0) (k : TokenKind) (n : Option Spot) (o : Outline) (d 
   pub head : Token
   pub is : ts ≡ head ∷ skip ts
   pub kind_is : head.kind ≡ k
-  pub at : Stands n (spot ts)
+  pub at : FitsSpot n (spot ts)
   pub after : Reads o d (skip ts) r
 
 pub next_token : (h : Type 0) (k : TokenKind) (n : Option Spot) (o : Outline) (d : ℕ) (ts r : List Token) → Reads (token h k n o) d ts r → Next h k n o d ts r

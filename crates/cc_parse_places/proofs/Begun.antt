@@ -8,7 +8,7 @@ use Rattle.cc_lex.specs.declared.token.TokenKind.{TokenKind}
 use Rattle.cc_lex.specs.declared.token.TokenKind.TheVariants as kind
 use Rattle.cc_lex.specs.declared.keyword.Keyword.{Keyword}
 use Rattle.cc_lex.specs.declared.punct.Punct.{Punct}
-use Rattle.cc_grammar.specs.Outline.{Outline, end, token, part, Stands}
+use Rattle.cc_grammar.specs.Outline.{Outline, end, token, part, FitsSpot}
 use Rattle.cc_grammar.specs.Outlines.{within}
 use Rattle.cc_grammar.specs.Classes.{next_is, next_is_keyword, skip, spot}
 use Rattle.cc_parse_laws.proofs.Spans.{Inside, Reads}
@@ -19,7 +19,7 @@ use Rattle.cc_parse_laws.proofs.NextTokens.{NextKind}
 abbrev pub Cut : Outline → ℕ → List Token → List Token → Type 0
 Cut end d ts r = ts ≡ r
 Cut (token h k s o) d [] r = [] ≡ r
-Cut (token h k s o) d (t ∷ ts) r = ((t ∷ ts) ≡ r) ⊎ (h × (t.kind ≡ k) × Stands s t.spot × Cut o d ts r)
+Cut (token h k s o) d (t ∷ ts) r = ((t ∷ ts) ≡ r) ⊎ (h × (t.kind ≡ k) × FitsSpot s t.spot × Cut o d ts r)
 Cut (part c h i o) d ts r = (ts ≡ r) ⊎ ((h × Inside c (λ e. Cut i e ts r) d) ⊎ ((m : List Token) × h × Inside c (λ e. Reads i e ts m) d × Cut o d m r))
 
 pub record Begun (o : Outline) (d : ℕ) (ts r : List Token) : Type 0 where
@@ -27,7 +27,7 @@ pub record Begun (o : Outline) (d : ℕ) (ts r : List Token) : Type 0 where
 
 -- ---- How it is begun
 
-cut_here : (o : Outline) (d : ℕ) (ts r : List Token) → ts ≡ r → Cut o d ts r
+pub cut_here : (o : Outline) (d : ℕ) (ts r : List Token) → ts ≡ r → Cut o d ts r
 cut_here end d ts r e = e
 cut_here (token h k s o) d [] r e = e
 cut_here (token h k s o) d (t ∷ ts) r e = inl e
@@ -37,12 +37,12 @@ cut_here (part c h i o) d ts r e = inl e
 pub at : {o : Outline} {d : ℕ} {ts r : List Token} → ts ≡ r → Begun o d ts r
 at {o} {d} {ts} {r} e = record { cut = cut_here o d ts r e }
 
-cut_token : (h : Type 0) (k : TokenKind) (s : Option Spot) (o : Outline) (d : ℕ) (ts r : List Token) → h → NextKind k ts → Stands s (spot ts) → Cut o d (skip ts) r → Cut (token h k s o) d ts r
+cut_token : (h : Type 0) (k : TokenKind) (s : Option Spot) (o : Outline) (d : ℕ) (ts r : List Token) → h → NextKind k ts → FitsSpot s (spot ts) → Cut o d (skip ts) r → Cut (token h k s o) d ts r
 cut_token h k s o d [] r a e st x = absurd e
 cut_token h k s o d (t ∷ ts) r a e st x = inr (a, e, st, x)
 
 -- a token is there
-pub token_then : {h : Type 0} {k : TokenKind} {s : Option Spot} {o : Outline} {d : ℕ} {ts r : List Token} → h → NextKind k ts → Stands s (spot ts) → Begun o d (skip ts) r → Begun (token h k s o) d ts r
+pub token_then : {h : Type 0} {k : TokenKind} {s : Option Spot} {o : Outline} {d : ℕ} {ts r : List Token} → h → NextKind k ts → FitsSpot s (spot ts) → Begun o d (skip ts) r → Begun (token h k s o) d ts r
 token_then {h} {k} {s} {o} {d} {ts} {r} a e st x = record { cut = cut_token h k s o d ts r a e st x.cut }
 
 read_then : (h : Type 0) (k : TokenKind) (s : Option Spot) (o : Outline) (d : ℕ) (ts m r : List Token) → Reads (token h k s end) d ts m → Cut o d m r → Cut (token h k s o) d ts r
@@ -61,11 +61,11 @@ pub next_keyword : (w : Keyword) (ts : List Token) → next_is_keyword w ts ≡ 
 next_keyword w [] e = absurd cc
 next_keyword w (t ∷ ts) e = keyword_kind w t.kind e
 
-pub sign_then : {s : Punct} {n : Option Spot} {o : Outline} {d : ℕ} {ts r : List Token} → next_is s ts ≡ true → Stands n (spot ts) → Begun o d (skip ts) r → Begun (token (Unit {0}) (kind.Punct s) n o) d ts r
-sign_then {s} {n} {o} {d} {ts} e st x = token_then tt (next_punct s ts e) st x
+pub punct_then : {s : Punct} {n : Option Spot} {o : Outline} {d : ℕ} {ts r : List Token} → next_is s ts ≡ true → FitsSpot n (spot ts) → Begun o d (skip ts) r → Begun (token (Unit {0}) (kind.Punct s) n o) d ts r
+punct_then {s} {n} {o} {d} {ts} e st x = token_then tt (next_punct s ts e) st x
 
-pub key_then : {w : Keyword} {n : Option Spot} {o : Outline} {d : ℕ} {ts r : List Token} → next_is_keyword w ts ≡ true → Stands n (spot ts) → Begun o d (skip ts) r → Begun (token (Unit {0}) (kind.Keyword w) n o) d ts r
-key_then {w} {n} {o} {d} {ts} e st x = token_then tt (next_keyword w ts e) st x
+pub keyword_then : {w : Keyword} {n : Option Spot} {o : Outline} {d : ℕ} {ts r : List Token} → next_is_keyword w ts ≡ true → FitsSpot n (spot ts) → Begun o d (skip ts) r → Begun (token (Unit {0}) (kind.Keyword w) n o) d ts r
+keyword_then {w} {n} {o} {d} {ts} e st x = token_then tt (next_keyword w ts e) st x
 
 inside_cut : (c : Bool) (i : Outline) (d : ℕ) (ts r : List Token) → Inside c (λ e. Begun i e ts r) d → Inside c (λ e. Cut i e ts r) d
 inside_cut false i d ts r x = x.cut

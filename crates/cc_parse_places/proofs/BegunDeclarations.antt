@@ -16,7 +16,7 @@ use Rattle.cc_parse_laws.proofs.Inner.{ReadsDeclarator}
 use Rattle.cc_parse_laws.proofs.SoundReaders.{readers_sound}
 use Rattle.cc_parse_laws.proofs.SoundValues.{ReadsValue, value_sound, given_sound}
 use Rattle.cc_parse_laws.proofs.SoundDeclarations.{inits_sound}
-use Rattle.cc_parse_places.proofs.Begun.{Begun, at, sign_then, part_in, part_past, part_of, within_in, within_past}
+use Rattle.cc_parse_places.proofs.Begun.{Begun, at, punct_then, part_in, part_past, part_of, within_in, within_past}
 use Rattle.cc_parse_places.proofs.Failures.{err_is, bind_err, map_err, branch_err, until_err}
 use Rattle.cc_parse_places.proofs.BegunTypes.{Fails, OthersBegun, BracedBegun, enclosed_fails}
 use Rattle.cc_parse_places.proofs.BegunReaders.{readers_fail}
@@ -31,14 +31,14 @@ no_value names d ts = (single (name (spot ts) []), at refl)
 
 further_begun : (names : Names) (d : ℕ) (vs : List (ValueTree Spot)) (ts m : List Token) → OthersBegun (ReadsValue names d) (ValueBegun names d) vs ts m → Begun (outlines.further_values names (gathered_values vs)) d ts m
 further_begun names d [] ts m x = at x
-further_begun names d (v ∷ vs) ts m (c, inl x) = sign_then c tt (within_in x)
-further_begun names d (v ∷ vs) ts m (c, inr x) = sign_then c tt (within_past x.0 x.1 (within_in (further_begun names d vs x.0 m x.2)))
+further_begun names d (v ∷ vs) ts m (c, inl x) = punct_then c tt (within_in x)
+further_begun names d (v ∷ vs) ts m (c, inr x) = punct_then c tt (within_past x.0 x.1 (within_in (further_begun names d vs x.0 m x.2)))
 
 braces_begun : (names : Names) (d : ℕ) (vs : List (ValueTree Spot)) (last : Bool) (ts m : List Token) → BracedBegun (ReadsValue names d) (ValueBegun names d) vs ts m → ValueBegun names (suc d) (braces (spot ts) (gathered_values vs) last) ts m
 braces_begun names d [] last ts m x = absurd x
 braces_begun names d (v ∷ vs) last ts m (inl e) = at e
-braces_begun names d (v ∷ vs) last ts m (inr (b, inl x)) = part_in {c = true} tt (sign_then b refl (within_in (within_in x)))
-braces_begun names d (v ∷ vs) last ts m (inr (b, inr x)) = part_in {c = true} tt (sign_then b refl (within_in (within_past x.0 x.1 (within_in (further_begun names d vs x.0 m x.2)))))
+braces_begun names d (v ∷ vs) last ts m (inr (b, inl x)) = part_in {c = true} tt (punct_then b refl (within_in (within_in x)))
+braces_begun names d (v ∷ vs) last ts m (inr (b, inr x)) = part_in {c = true} tt (punct_then b refl (within_in (within_past x.0 x.1 (within_in (further_begun names d vs x.0 m x.2)))))
 
 pub value_fails : (names : Names) (d : ℕ) → Fails (value names d) (ValueBegun names d)
 value_fails names zero ts m e = (single (name (spot ts) []), at (err_is {A = ValueTree Spot} e))
@@ -52,7 +52,7 @@ value_fails names (suc d) ts m e =
 given_fails : (names : Names) (d : ℕ) → Fails (given names d) (λ v ts m. Begun (outlines.given names v) d ts m)
 given_fails names d ts m e =
     branch_err (next_is the_punct.Equal ts) _ _ ts e
-    (λ c f. let q = value_fails names d (skip ts) m (map_err _ _ f) in (Some q.0, sign_then c tt (within_in q.1)))
+    (λ c f. let q = value_fails names d (skip ts) m (map_err _ _ f) in (Some q.0, punct_then c tt (within_in q.1)))
     (λ c f. absurd cc)
 
 -- ---- Declarators with their initialisers
@@ -67,7 +67,7 @@ inits_begun names typedef d (i ∷ is) ts m x = x
 
 more_begun : (names : Names) (typedef : Bool) (d : ℕ) (is : List (InitTree Spot)) (ts m : List Token) → next_is the_punct.Comma ts ≡ true → InitsBegun names typedef d is (skip ts) m → Begun (outlines.more_inits names typedef is) d ts m
 more_begun names typedef d [] ts m c x = absurd x
-more_begun names typedef d (i ∷ is) ts m c x = sign_then c tt x
+more_begun names typedef d (i ∷ is) ts m c x = punct_then c tt x
 
 -- The declarator that was read before begins at `from`.
 inits_behind_fails : (d : ℕ) (typedef : Bool) (turns : ℕ) (names : Names) (f : DeclTree Spot) (from ts m : List Token) → outlines.is_named f ≡ true → ReadsDeclarator names d f from ts
@@ -82,7 +82,7 @@ inits_behind_fails d typedef (suc turns) names f from ts m named there e =
     branch_err (next_is the_punct.Comma y.1) _ _ y.1 g
     (λ c h. bind_err ((readers after d).declarator with_name (skip y.1)) _ h
     (λ k. let q = (readers_fail after d).declarator with_name (skip y.1) m k in
-    (init f y.0 ∷ init q.0 None ∷ [], within_past y.1 one (within_in (sign_then c tt (within_in (part_of q.1 q.2))))))
+    (init f y.0 ∷ init q.0 None ∷ [], within_past y.1 one (within_in (punct_then c tt (within_in (part_of q.1 q.2))))))
     (λ z done k.
     let next = (readers_sound after d).declarator with_name (skip y.1) z done in
     let q = inits_behind_fails d typedef turns after z.0 (skip y.1) z.1 m next.0 next.1 (map_err _ _ k) in

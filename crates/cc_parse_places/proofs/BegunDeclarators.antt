@@ -19,8 +19,8 @@ use Rattle.cc_parse_laws.proofs.Depths.{declarator_depth}
 use Rattle.cc_parse_laws.proofs.Steps.{bind_ok, branched, ok_is}
 use Rattle.cc_parse_laws.proofs.Inner.{ReadsDeclarator, Suits, SoundInner}
 use Rattle.cc_parse_laws.proofs.SoundClimbing.{sinks}
-use Rattle.cc_parse_places.proofs.DeclaratorsSound.{has_spot, suffix_stands, closes_over, opening_stands, suits_too, suits_pointer, suits_grouped, other_of, consts_by_sound, Direct, suffix_sound, direct_sound}
-use Rattle.cc_parse_places.proofs.Begun.{Begun, Part, at, sign_then, part_in, part_past, part_of, within_in, within_past}
+use Rattle.cc_parse_laws.proofs.SoundDeclarators.{has_spot, suffix_stands, closes_over, opening_stands, suits_too, suits_pointer, suits_grouped, other_of, consts_by_sound, Direct, suffix_sound, direct_sound}
+use Rattle.cc_parse_places.proofs.Begun.{Begun, Part, at, punct_then, part_in, part_past, part_of, within_in, within_past}
 use Rattle.cc_parse_places.proofs.Failures.{err_is, bind_err, map_err, branch_err, until_err, id_err}
 use Rattle.cc_parse_places.proofs.BegunTypes.{BegunInner, Fails, missing, missing_suits, parameters_fail}
 
@@ -76,7 +76,7 @@ module _ (names : Names) (inner : Inner) (d : ℕ) (good : SoundInner names inne
   array_fails mode left first ts m a c e =
       let n = spot_or left (spot ts) in
       let q = array_length_fails (skip ts) m (map_err _ _ e) in
-      (array n left q.0, suits_too mode left (array n left q.0) refl a.0, inr (part_in {c = false} (has_spot left (spot ts)) (part_past {c = outlines.is_written left} ts a.1 a.2 (sign_then c (suffix_stands left (spot ts)) q.1))))
+      (array n left q.0, suits_too mode left (array n left q.0) refl a.0, inr (part_in {c = false} (has_spot left (spot ts)) (part_past {c = outlines.is_written left} ts a.1 a.2 (punct_then c (suffix_stands left (spot ts)) q.1))))
 
   function_fails : (mode : Mode) (left : DeclTree Spot) (first ts m : List Token) → Direct names d mode first (left, ts) → next_is the_punct.LeftParen ts ≡ true
       → ((λ ps. function (spot_or left (spot ts)) left (gathered_types ps)) <$> reader.parameters names inner (suc d)) (skip ts) ≡ Err m → DeclaratorBegun names (suc d) mode first m
@@ -84,7 +84,7 @@ module _ (names : Names) (inner : Inner) (d : ℕ) (good : SoundInner names inne
       let n = spot_or left (spot ts) in
       let q = parameters_fail names inner d good fails (skip ts) m (map_err _ _ e) in
       let ps = gathered_types q.0 in
-      (function n left ps, suits_too mode left (function n left ps) refl a.0, inr (part_in {c = false} (has_spot left (spot ts)) (part_past {c = outlines.is_written left} ts a.1 a.2 (sign_then c (suffix_stands left (spot ts)) q.1))))
+      (function n left ps, suits_too mode left (function n left ps) refl a.0, inr (part_in {c = false} (has_spot left (spot ts)) (part_past {c = outlines.is_written left} ts a.1 a.2 (punct_then c (suffix_stands left (spot ts)) q.1))))
 
   suffix_fails : (mode : Mode) (left : DeclTree Spot) (first ts m : List Token) → Direct names d mode first (left, ts) → reader.suffix_comes names inner (suc d) ts ≡ true → reader.suffix names inner (suc d) left ts ≡ Err m → DeclaratorBegun names (suc d) mode first m
   suffix_fails mode left first ts m a comes e =
@@ -119,7 +119,7 @@ module _ (names : Names) (inner : Inner) (d : ℕ) (good : SoundInner names inne
             let same : f.0 ≡ y = ok_is (f.0.0, f.0.1) y w.1 in
             let g : Suits mode y.0 × ReadsDeclarator names d y.0 (skip ts) y.1 = subst (λ (z : DeclTree Spot × List Token). Suits mode z.0 × ReadsDeclarator names d z.0 (skip ts) z.1) same v in
             let written : outlines.is_written y.0 ≡ true = subst (λ (z : DeclTree Spot × List Token). outlines.is_written z.0 ≡ true) same w.0 in
-            (grouped (opening y.0 n) y.0, suits_grouped mode (opening y.0 n) y.0 g.0, inr (part_in {c = false} (closes_over y.0 n) (sign_then c (opening_stands y.0 n) (part_past {c = outlines.is_written y.0} y.1 written g.1 (at e)))))
+            (grouped (opening y.0 n) y.0, suits_grouped mode (opening y.0 n) y.0 g.0, inr (part_in {c = false} (closes_over y.0 n) (punct_then c (opening_stands y.0 n) (part_past {c = outlines.is_written y.0} y.1 written g.1 (at e)))))
         | inr w ↦ absurd (let no : Err f.0.1 ≡ Ok y = w.1 in cc)
       ]
 
@@ -129,11 +129,11 @@ module _ (names : Names) (inner : Inner) (d : ℕ) (good : SoundInner names inne
       let none = missing mode in
       bind_err (inner.declarator mode (skip ts)) _ e
       (λ g. let q = fails.declarator mode (skip ts) m g in
-      (grouped (opening q.0 n) q.0, suits_grouped mode (opening q.0 n) q.0 q.1, inr (part_in {c = false} (closes_over q.0 n) (sign_then c (opening_stands q.0 n) (written_part names d q.0 (skip ts) m q.2)))))
+      (grouped (opening q.0 n) q.0, suits_grouped mode (opening q.0 n) q.0 q.1, inr (part_in {c = false} (closes_over q.0 n) (punct_then c (opening_stands q.0 n) (written_part names d q.0 (skip ts) m q.2)))))
       (λ y ok g. branch_err (outlines.is_written y.0) _ _ y.1 g (λ b h. absurd cc)
       (λ b h.
       let here : skip ts ≡ m = unwritten_reads names d y.0 (skip ts) y.1 b (good.declarator mode (skip ts) y ok).1 ∙ err_is {A = DeclTree Spot} h in
-      (grouped (opening none n) none, suits_grouped mode (opening none n) none (missing_suits mode), inr (part_in {c = false} (closes_over none n) (sign_then c (opening_stands none n) (at here))))))
+      (grouped (opening none n) none, suits_grouped mode (opening none n) none (missing_suits mode), inr (part_in {c = false} (closes_over none n) (punct_then c (opening_stands none n) (at here))))))
 
   group_fails : (mode : Mode) (ts m : List Token) → next_is the_punct.LeftParen ts ≡ true → reader.group names inner (suc d) mode ts ≡ Err m → DeclaratorBegun names (suc d) mode ts m
   group_fails mode ts m c e =
@@ -158,7 +158,7 @@ module _ (names : Names) (inner : Inner) (d : ℕ) (good : SoundInner names inne
       let k = opening q.0 n in (
         pointer k y.0 q.0,
         suits_pointer mode k y.0 q.0 q.1,
-        inr (part_in {c = false} (closes_over q.0 n) (sign_then c (opening_stands q.0 n) (within_past y.1 (consts_by_sound names inner (suc d) d (length (skip ts)) (skip ts) y ok) (part_of tt q.2)))),
+        inr (part_in {c = false} (closes_over q.0 n) (punct_then c (opening_stands q.0 n) (within_past y.1 (consts_by_sound names inner (suc d) d (length (skip ts)) (skip ts) y ok) (part_of tt q.2)))),
       ))
 
   pub declarator_fails : (mode : Mode) (ts m : List Token) → reader.declarator names inner (suc d) mode ts ≡ Err m → DeclaratorBegun names (suc d) mode ts m

@@ -11,7 +11,7 @@ use Rattle.cc_tree.specs.Trees.{type_name, nameless, ExprTree, name, string, par
 use Rattle.cc_tree.specs.Views.{gathered}
 use Rattle.cc_grammar.specs.Levels.{level, binary_level}
 use Rattle.cc_grammar.specs.Names.{Names}
-use Rattle.cc_grammar.specs.Outline.{Outline, token, Stands}
+use Rattle.cc_grammar.specs.Outline.{Outline, token, FitsSpot}
 use Rattle.cc_grammar.specs.Outlines as outlines
 use Rattle.cc_grammar.specs.Classes.{next_is, next_literal, skip, spot, starts_spec, Start, begins_name, begins_integer, begins_character, begins_string, begins_paren, begins_unary, begins_step, begins_sizeof, begins_nothing, start, Tail, goes_binary, goes_assign, goes_question, goes_comma, goes_call, goes_index, goes_dot, goes_arrow, goes_step, ends_here, tail, binds, left_level}
 use Rattle.cc_grammar.specs.Outcomes.{and_then, take, pure, ◌<$>◌}
@@ -24,8 +24,8 @@ use Rattle.cc_parse_laws.proofs.NextTokens.{NextKind, start_token, start_next, t
 use Rattle.cc_parse_laws.proofs.Inner.{ReadsExpr, SoundInner}
 use Rattle.cc_parse_laws.proofs.SoundTypes.{typed_sound, typed_type}
 use Rattle.cc_parse_laws.proofs.SoundClimbing.{Made, climb_sound, sinks, binary_level_most, goes_on_true}
-use Rattle.cc_parse_places.proofs.PrefixesSound.{prefix_sound}
-use Rattle.cc_parse_places.proofs.Begun.{Begun, at, token_then, sign_then, part_in, part_past, part_of, within_in, within_past}
+use Rattle.cc_parse_laws.proofs.SoundExpressions.{prefix_sound}
+use Rattle.cc_parse_places.proofs.Begun.{Begun, at, token_then, punct_then, part_in, part_past, part_of, within_in, within_past}
 use Rattle.cc_parse_places.proofs.Failures.{err_is, bind_err, map_err, branch_err, take_bind, until_err, id_err}
 use Rattle.cc_parse_places.proofs.BegunTypes.{BegunInner, Fails, FollowingBegun, RepeatedBegun, repeated_by_fails, typed_fails, type_begun, arguments_fail, some_spec}
 
@@ -36,7 +36,7 @@ module _ (names : Names) (inner : Inner) (d : ℕ) (good : SoundInner names inne
 
   -- ---- How an expression goes on
 
-  behind : {w : TokenKind} {i : Outline} (n : Option Spot) (ts m : List Token) → tail_token (tail ts) ≡ Some w → Stands n (spot ts) → Begun i d (skip ts) m → Begun (token (Unit {0}) w n i) d ts m
+  behind : {w : TokenKind} {i : Outline} (n : Option Spot) (ts m : List Token) → tail_token (tail ts) ≡ Some w → FitsSpot n (spot ts) → Begun i d (skip ts) m → Begun (token (Unit {0}) w n i) d ts m
   behind {w} n ts m e st x = token_then tt (tail_next w ts e) st x
 
   choice_fails : (left : ExprTree Spot) (first ts m : List Token) → tail ts ≡ goes_question → 4 ≤ level left → ReadsExpr names d left first ts → reader.go_on names inner (suc d) left goes_question (spot ts) (skip ts) ≡ Err m → MadeBegun 3 first m
@@ -49,7 +49,7 @@ module _ (names : Names) (inner : Inner) (d : ℕ) (good : SoundInner names inne
       (λ y ok f. let u = good.expr 1 (omega arith) (skip ts) y ok in take_bind the_punct.Colon y.1 _ f
       (λ g. (choice n left y.0 none, omega arith, part_past {c = true} ts l a (behind (Some n) ts m (ap tail_token t) refl (part_past {c = true} y.1 u.0 u.1 (at g)))))
       (λ c g. let q = fails.expr 3 (omega arith) (omega arith) (skip y.1) m (map_err _ _ g) in
-      (choice n left y.0 q.0, omega arith, part_past {c = true} ts l a (behind (Some n) ts m (ap tail_token t) refl (part_past {c = true} y.1 u.0 u.1 (sign_then c tt (part_of q.1 q.2)))))))
+      (choice n left y.0 q.0, omega arith, part_past {c = true} ts l a (behind (Some n) ts m (ap tail_token t) refl (part_past {c = true} y.1 u.0 u.1 (punct_then c tt (part_of q.1 q.2)))))))
 
   index_fails : (left : ExprTree Spot) (first ts m : List Token) → tail ts ≡ goes_index → 16 ≤ level left → ReadsExpr names d left first ts → reader.go_on names inner (suc d) left goes_index (spot ts) (skip ts) ≡ Err m → MadeBegun 16 first m
   index_fails left first ts m t l a e =
@@ -147,7 +147,7 @@ module _ (names : Names) (inner : Inner) (d : ℕ) (good : SoundInner names inne
       (λ y ok f. let u = typed_type names inner d good y.0 (skip ts) y.1 (typed_sound names inner d good without_name (skip ts) y ok) in take_bind the_punct.RightParen y.1 _ f
       (λ g. (cast n y.0 (name n []), l, opens ts m (ap start_token s) (within_past y.1 u (at g))))
       (λ c g. let q = fails.expr 14 (omega arith) (omega arith) (skip y.1) m (map_err _ _ g) in
-      (cast n y.0 q.0, l, opens ts m (ap start_token s) (within_past y.1 u (sign_then c tt (part_of q.1 q.2))))))
+      (cast n y.0 q.0, l, opens ts m (ap start_token s) (within_past y.1 u (punct_then c tt (part_of q.1 q.2))))))
 
   paren_fails : (least : ℕ) (ts m : List Token) → start ts ≡ begins_paren → least ≤ 15 → and_then (inner.expr 1 (skip ts)) (λ y us. and_then (take the_punct.RightParen us) (λ z. pure (paren (spot ts) y))) ≡ Err m → MadeBegun least ts m
   paren_fails least ts m s l e =
@@ -170,9 +170,9 @@ module _ (names : Names) (inner : Inner) (d : ℕ) (good : SoundInner names inne
       let n = spot ts in
       bind_err (reader.typed names inner (suc d) without_name (skip (skip ts))) _ e
       (λ f. let q = typed_fails names inner d good fails without_name (skip (skip ts)) m f in
-      (size_type n q.0, l, opens ts m (ap start_token s) (sign_then comes tt (within_in (type_begun names inner d good fails q.0 (skip (skip ts)) m q.1)))))
+      (size_type n q.0, l, opens ts m (ap start_token s) (punct_then comes tt (within_in (type_begun names inner d good fails q.0 (skip (skip ts)) m q.1)))))
       (λ y ok f. let u = typed_type names inner d good y.0 (skip (skip ts)) y.1 (typed_sound names inner d good without_name (skip (skip ts)) y ok) in
-      (size_type n y.0, l, opens ts m (ap start_token s) (sign_then comes tt (within_past y.1 u (at (until_err the_punct.RightParen (size_type n y.0) y.1 f))))))
+      (size_type n y.0, l, opens ts m (ap start_token s) (punct_then comes tt (within_past y.1 u (at (until_err the_punct.RightParen (size_type n y.0) y.1 f))))))
 
   behind_sizeof_fails : (least : ℕ) (ts m : List Token) → start ts ≡ begins_sizeof → least ≤ 15 → reader.behind_sizeof names inner (suc d) (spot ts) (skip ts) ≡ Err m → MadeBegun least ts m
   behind_sizeof_fails least ts m s l e =
@@ -180,7 +180,7 @@ module _ (names : Names) (inner : Inner) (d : ℕ) (good : SoundInner names inne
       branch_err (next_is the_punct.LeftParen (skip ts) && starts_spec names (skip (skip ts))) _ _ (skip ts) e
       (λ c f. size_type_fails least ts m s l (and_parts (next_is the_punct.LeftParen (skip ts)) (starts_spec names (skip (skip ts))) c).0 f)
       (λ c f. branch_err (next_is the_punct.LeftParen (skip ts) && (suc d == 1)) _ _ (skip ts) f
-      (λ b g. (size_type n (type_name n (some_spec n) nameless), l, opens ts m (ap start_token s) (sign_then (and_parts (next_is the_punct.LeftParen (skip ts)) (suc d == 1) b).0 tt (at (err_is {A = ExprTree Spot} g)))))
+      (λ b g. (size_type n (type_name n (some_spec n) nameless), l, opens ts m (ap start_token s) (punct_then (and_parts (next_is the_punct.LeftParen (skip ts)) (suc d == 1) b).0 tt (at (err_is {A = ExprTree Spot} g)))))
       (λ b g. let q = fails.expr 15 (omega arith) (omega arith) (skip ts) m (map_err _ _ g) in
       (size_expr n q.0, l, opens ts m (ap start_token s) (part_of q.1 q.2))))
 

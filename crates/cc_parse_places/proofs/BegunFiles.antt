@@ -9,6 +9,7 @@ use Rattle.cc_grammar.specs.Outlines as outlines
 use Rattle.cc_grammar.specs.Classes.{next_is, spot}
 use Rattle.cc_grammar.specs.Reading as reader
 use Rattle.cc_grammar.specs.Reading.{readers, with_name, spot_or, inits, reading}
+use Rattle.cc_grammar.specs.CutOff.{CutOff}
 use Rattle.cc_parse_laws.proofs.Spans.{Reads}
 use Rattle.cc_parse_laws.proofs.Inner.{ReadsDeclarator}
 use Rattle.cc_parse_laws.proofs.SoundReaders.{readers_sound}
@@ -74,6 +75,6 @@ externals_fail d (suc turns) names ts m e =
     (y.0 ∷ q.0, within_past y.1 (external_sound readers_sound d names ts y ok) (within_in q.1))))
 
 -- The tokens before the place at which reading fails are the spelling of a cut-off file that is no deeper.
-pub cut_off_before : (d : ℕ) (tokens rest : List Token) → reading d tokens ≡ Err rest → outlines.CutOff d (take (length tokens - length rest) tokens)
+pub cut_off_before : (d : ℕ) (tokens rest : List Token) → reading d tokens ≡ Err rest → CutOff d (take (length tokens - length rest) tokens)
 unfolding reading
 cut_off_before d tokens rest e = let q = externals_fail d (suc (length tokens)) [] tokens rest e in is_cut_off d tokens rest q.0 q.1

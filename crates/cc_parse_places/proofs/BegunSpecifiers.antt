@@ -18,9 +18,9 @@ use Rattle.cc_parse_laws.proofs.Steps.{bind_ok, take_ok}
 use Rattle.cc_parse_laws.proofs.NextTokens.{spec_token, spec_next, id_reads}
 use Rattle.cc_parse_laws.proofs.Lists.{Repeated, separated_sound, repeated_sound}
 use Rattle.cc_parse_laws.proofs.Inner.{SoundInner}
-use Rattle.cc_parse_places.proofs.SpecifiersSound.{HasMembers, HasConstants, MembersSound, ConstantsSound, struct_with_members, enum_with_constants, tag_sound, spec_by_sound, SpecAt}
-use Rattle.cc_parse_places.proofs.ListsSound.{Named, some_declarators, Line, member_line_sound, other_lines, One, one_constant_sound}
-use Rattle.cc_parse_places.proofs.Begun.{Begun, Part, at, token_then, token_read, sign_then, part_in, part_past, part_of, within_in, within_past}
+use Rattle.cc_parse_laws.proofs.SoundSpecifiers.{HasMembers, HasConstants, MembersSound, ConstantsSound, struct_with_members, enum_with_constants, tag_sound, spec_by_sound, SpecAt}
+use Rattle.cc_parse_laws.proofs.SoundLists.{Named, some_declarators, Line, member_line_sound, other_lines, One, one_constant_sound}
+use Rattle.cc_parse_places.proofs.Begun.{Begun, Part, at, token_then, token_read, punct_then, part_in, part_past, part_of, within_in, within_past}
 use Rattle.cc_parse_places.proofs.Failures.{err_is, bind_err, map_err, branch_err, take_bind, until_err, id_err}
 use Rattle.cc_parse_places.proofs.BegunTypes.{BegunInner, Fails, OthersBegun, SomeBegun, BracedBegun, FollowingBegun, RepeatedBegun, separated_fails, enclosed_fails, repeated_by_fails, some_spec}
 
@@ -38,8 +38,8 @@ module _ (names : Names) (inner : Inner) (d : ℕ) (good : SoundInner names inne
 
   others_begun : (fs : List (DeclTree Spot)) (ts m : List Token) → OthersBegun (Named names inner d good) NamedBegun fs ts m → Begun (outlines.more_of_them names (gathered_declarators fs)) d ts m
   others_begun [] ts m x = at x
-  others_begun (f ∷ fs) ts m (c, inl x) = sign_then c tt (part_of x.0 x.1)
-  others_begun (f ∷ fs) ts m (c, inr x) = sign_then c tt (part_past {c = outlines.is_written f} x.0 x.1.0 x.1.1 (within_in (others_begun fs x.0 m x.2)))
+  others_begun (f ∷ fs) ts m (c, inl x) = punct_then c tt (part_of x.0 x.1)
+  others_begun (f ∷ fs) ts m (c, inr x) = punct_then c tt (part_past {c = outlines.is_written f} x.0 x.1.0 x.1.1 (within_in (others_begun fs x.0 m x.2)))
 
   some_begun : (fs : List (DeclTree Spot)) (ts m : List Token) → SomeBegun (Named names inner d good) NamedBegun fs ts m → outlines.HasDeclarators (gathered_declarators fs) × Begun (outlines.declarators names (gathered_declarators fs)) d ts m
   some_begun [] ts m x = absurd x
@@ -76,12 +76,12 @@ module _ (names : Names) (inner : Inner) (d : ℕ) (good : SoundInner names inne
 
   in_braces : (ms : List (MemberTree Spot)) (ts m : List Token) → next_is the_punct.LeftBrace ts ≡ true → RepeatedBegun (Line names inner d good) LineBegun ms (skip ts) m → MembersBegun ms ts m
   in_braces [] ts m b x = absurd x
-  in_braces (y ∷ ys) ts m b (inl x) = (tt, part_in {c = true} tt (sign_then b tt (within_in x)))
-  in_braces (y ∷ ys) ts m b (inr x) = (tt, part_in {c = true} tt (sign_then b tt (within_past x.0 x.1 (within_in (lines_begun ys x.0 m x.2)))))
+  in_braces (y ∷ ys) ts m b (inl x) = (tt, part_in {c = true} tt (punct_then b tt (within_in x)))
+  in_braces (y ∷ ys) ts m b (inr x) = (tt, part_in {c = true} tt (punct_then b tt (within_past x.0 x.1 (within_in (lines_begun ys x.0 m x.2)))))
 
   unclosed : (more : List Token → Bool) (ms : List (MemberTree Spot)) (ts u m : List Token) → next_is the_punct.LeftBrace ts ≡ true → Repeated more (Line names inner d good) ms (skip ts) u → u ≡ m → MembersBegun ms ts m
   unclosed more [] ts u m b x e = absurd x
-  unclosed more (y ∷ ys) ts u m b x e = (tt, part_in {c = true} tt (sign_then b tt (within_past x.0 x.1 (within_past u (other_lines names inner d good more ys x.0 u x.2) (at e)))))
+  unclosed more (y ∷ ys) ts u m b x e = (tt, part_in {c = true} tt (punct_then b tt (within_past x.0 x.1 (within_past u (other_lines names inner d good more ys x.0 u x.2) (at e)))))
 
   no_members_there : (ts m : List Token) → ts ≡ m → (ms : List (MemberTree Spot)) × MembersBegun ms ts m
   no_members_there ts m e = let x = no_line ts in (x.0 ∷ [], (tt, at e))
@@ -109,7 +109,7 @@ module _ (names : Names) (inner : Inner) (d : ℕ) (good : SoundInner names inne
   value_fails : Fails (reader.constant_value names inner (suc d)) (λ x ts m. Begun (outlines.constant_value names x) d ts m)
   value_fails ts m e =
       branch_err (next_is the_punct.Equal ts) _ _ ts e
-      (λ c f. let q = fails.expr 3 (omega arith) (omega arith) (skip ts) m (map_err _ _ f) in (an_expr q.0, sign_then c tt (part_of q.1 q.2)))
+      (λ c f. let q = fails.expr 3 (omega arith) (omega arith) (skip ts) m (map_err _ _ f) in (an_expr q.0, punct_then c tt (part_of q.1 q.2)))
       (λ c f. absurd cc)
 
   abbrev OneBegun : ConstantTree Spot → List Token → List Token → Type 0
@@ -128,8 +128,8 @@ module _ (names : Names) (inner : Inner) (d : ℕ) (good : SoundInner names inne
 
   other_ones : (cs : List (ConstantTree Spot)) (ts m : List Token) → OthersBegun (One names inner d good) OneBegun cs ts m → Begun (outlines.more_constants_of names (gathered_constants cs)) d ts m
   other_ones [] ts m x = at x
-  other_ones (c ∷ cs) ts m (b, inl x) = sign_then b tt (within_in x)
-  other_ones (c ∷ cs) ts m (b, inr x) = sign_then b tt (within_past x.0 x.1 (within_in (other_ones cs x.0 m x.2)))
+  other_ones (c ∷ cs) ts m (b, inl x) = punct_then b tt (within_in x)
+  other_ones (c ∷ cs) ts m (b, inr x) = punct_then b tt (within_past x.0 x.1 (within_in (other_ones cs x.0 m x.2)))
 
   abbrev ConstantsBegun : List (ConstantTree Spot) × Bool → List Token → List Token → Type 0
   ConstantsBegun cs ts m = HasConstants (gathered_constants cs.0) × Begun (outlines.constant_list names (gathered_constants cs.0) cs.1) (suc d) ts m
@@ -137,8 +137,8 @@ module _ (names : Names) (inner : Inner) (d : ℕ) (good : SoundInner names inne
   ones_begun : (cs : List (ConstantTree Spot)) (last : Bool) (ts m : List Token) → BracedBegun (One names inner d good) OneBegun cs ts m → ConstantsBegun (cs, last) ts m
   ones_begun [] last ts m x = absurd x
   ones_begun (c ∷ cs) last ts m (inl e) = (tt, at e)
-  ones_begun (c ∷ cs) last ts m (inr (b, inl x)) = (tt, part_in {c = true} tt (sign_then b tt (within_in x)))
-  ones_begun (c ∷ cs) last ts m (inr (b, inr x)) = (tt, part_in {c = true} tt (sign_then b tt (within_past x.0 x.1 (within_in (other_ones cs x.0 m x.2)))))
+  ones_begun (c ∷ cs) last ts m (inr (b, inl x)) = (tt, part_in {c = true} tt (punct_then b tt (within_in x)))
+  ones_begun (c ∷ cs) last ts m (inr (b, inr x)) = (tt, part_in {c = true} tt (punct_then b tt (within_past x.0 x.1 (within_in (other_ones cs x.0 m x.2)))))
 
   pub constants_fail : Fails (reader.constant_list names inner (suc d)) ConstantsBegun
   constants_fail ts m e =

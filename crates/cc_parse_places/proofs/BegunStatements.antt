@@ -23,8 +23,8 @@ use Rattle.cc_parse_laws.proofs.SoundReaders.{readers_sound}
 use Rattle.cc_parse_laws.proofs.SoundClauses.{condition_sound, clause_sound, start_sound}
 use Rattle.cc_parse_laws.proofs.SoundBlocks.{ReadsStmt}
 use Rattle.cc_parse_laws.proofs.SoundStatements.{stmt_sound}
-use Rattle.cc_parse_places.proofs.ItemsSound.{item_sound}
-use Rattle.cc_parse_places.proofs.Begun.{Begun, at, token_then, next_keyword, sign_then, key_then, part_in, part_past, part_of, within_in, within_past, read_past}
+use Rattle.cc_parse_laws.proofs.SoundBlocks.{item_sound}
+use Rattle.cc_parse_places.proofs.Begun.{Begun, at, token_then, next_keyword, punct_then, keyword_then, part_in, part_past, part_of, within_in, within_past, read_past}
 use Rattle.cc_parse_places.proofs.Failures.{err_is, bind_err, map_err, branch_err, take_bind, take_keyword_bind, until_err, take_bind_ok, take_keyword_bind_ok}
 use Rattle.cc_parse_places.proofs.BegunTypes.{Fails}
 use Rattle.cc_parse_places.proofs.BegunReaders.{readers_fail}
@@ -63,13 +63,13 @@ case_fails zero names ts m c e = (does no_stmt, at (err_is {A = ItemTree Spot} e
 case_fails (suc d) names ts m c e =
     let n = spot ts in
     bind_err ((readers names d).expr 3 (skip ts)) _ e
-    (λ f. let q = (readers_fail names d).expr 3 (omega arith) (omega arith) (skip ts) m f in (case_label n q.0, part_in {c = true} tt (key_then c refl (part_of q.1 q.2))))
+    (λ f. let q = (readers_fail names d).expr 3 (omega arith) (omega arith) (skip ts) m f in (case_label n q.0, part_in {c = true} tt (keyword_then c refl (part_of q.1 q.2))))
     (λ y ok f. let u = (readers_sound names d).expr 3 (omega arith) (skip ts) y ok in
-    (case_label n y.0, part_in {c = true} tt (key_then c refl (part_past {c = true} y.1 u.0 u.1 (at (until_err the_punct.Colon (case_label n y.0) y.1 f))))))
+    (case_label n y.0, part_in {c = true} tt (keyword_then c refl (part_past {c = true} y.1 u.0 u.1 (at (until_err the_punct.Colon (case_label n y.0) y.1 f))))))
 
 default_fails : (d : ℕ) (names : Names) (ts m : List Token) → next_is_keyword the_keyword.Default ts ≡ true → counted_by d (λ e us. and_then (take the_punct.Colon (skip us)) (λ z. pure (default_label (spot ts)))) ts ≡ Err m → (i : ItemTree Spot) × ItemBegun names d i ts m
 default_fails zero names ts m c e = (does no_stmt, at (err_is {A = ItemTree Spot} e))
-default_fails (suc d) names ts m c e = (default_label (spot ts), part_in {c = true} tt (key_then c refl (at (until_err the_punct.Colon (default_label (spot ts)) (skip ts) e))))
+default_fails (suc d) names ts m c e = (default_label (spot ts), part_in {c = true} tt (keyword_then c refl (at (until_err the_punct.Colon (default_label (spot ts)) (skip ts) e))))
 
 start_declares_fails : (d : ℕ) (names : Names) → Fails (counted_by d (λ e. start_declaration <$> declaration_at e names)) (λ s ts m. Begun (outlines.start_of names s) d ts m)
 start_declares_fails zero names ts m e = (no_start, at (err_is {A = StartTree Spot} e))
@@ -88,11 +88,11 @@ module _ (inner : Names → Parser (StmtTree Spot)) (d : ℕ) (inner_sound : (na
       bind_err (and_then (take the_punct.LeftParen ts) (λ z. (readers names d).expr 1)) _ e
       (λ f. take_bind the_punct.LeftParen ts _ f
       (λ h. (no_condition, at h))
-      (λ b g. let q = (readers_fail names d).expr 1 (omega arith) (omega arith) (skip ts) m g in (q.0, sign_then b tt (part_of q.1 q.2))))
+      (λ b g. let q = (readers_fail names d).expr 1 (omega arith) (omega arith) (skip ts) m g in (q.0, punct_then b tt (part_of q.1 q.2))))
       (λ y ok f.
       let t = take_bind_ok the_punct.LeftParen ts (λ z. (readers names d).expr 1) y ok in
       let u = (readers_sound names d).expr 1 (omega arith) (skip ts) y t.1 in
-      (y.0, sign_then t.0 tt (part_past {c = true} y.1 u.0 u.1 (at (until_err the_punct.RightParen y.0 y.1 f)))))
+      (y.0, punct_then t.0 tt (part_past {c = true} y.1 u.0 u.1 (at (until_err the_punct.RightParen y.0 y.1 f)))))
 
   condition_read : (names : Names) (ts : List Token) (y : ExprTree Spot × List Token) → reader.condition inner d names ts ≡ Ok y → Reads (tested names y.0) d ts y.1
   condition_read names ts y e = condition_sound readers_sound inner d names ts y e end y.1 refl
@@ -141,27 +141,27 @@ module _ (inner : Names → Parser (StmtTree Spot)) (d : ℕ) (inner_sound : (na
       (λ g. let q = item_fails names ts m g in (q.0 ∷ [], within_in q.1))
       (λ y ok g.
       let q = items_by_fail turns (after_item y.0 names) y.1 m (map_err _ _ g) in
-      (y.0 ∷ q.0, within_past y.1 (item_sound inner d inner_sound names ts y ok) (within_in q.1))))
+      (y.0 ∷ q.0, within_past y.1 (item_sound readers_sound inner d inner_sound names ts y ok) (within_in q.1))))
 
   -- ---- Statements
 
   block_begun : (names : Names) (ts m : List Token) → next_is the_punct.LeftBrace ts ≡ true → reader.stmt_by inner d begins_block names (spot ts) ts ≡ Err m → (b : BlockTree Spot) × Begun (outlines.block_of names b) (suc d) ts m
   block_begun names ts m opening e =
       let q = items_by_fail (suc (length (skip ts))) names (skip ts) m (map_err _ _ e) in
-      (block (spot ts) (gathered_items q.0), part_in {c = true} tt (sign_then opening refl (within_in q.1)))
+      (block (spot ts) (gathered_items q.0), part_in {c = true} tt (punct_then opening refl (within_in q.1)))
 
   if_fails : (names : Names) (ts m : List Token) → next_is_keyword the_keyword.If ts ≡ true → reader.stmt_by inner d begins_if names (spot ts) ts ≡ Err m → (s : StmtTree Spot) × StmtBegun names (suc d) s ts m
   if_fails names ts m opening e =
       let n = spot ts in
       bind_err (reader.condition inner d names (skip ts)) _ e
-      (λ f. let q = condition_fails (λ c. outlines.within (outlines.stmt names no_stmt) ▸ end) names (skip ts) m f in (if_then n q.0 no_stmt, part_in {c = true} tt (key_then opening refl q.1)))
+      (λ f. let q = condition_fails (λ c. outlines.within (outlines.stmt names no_stmt) ▸ end) names (skip ts) m f in (if_then n q.0 no_stmt, part_in {c = true} tt (keyword_then opening refl q.1)))
       (λ c ok f. let test = condition_read names (skip ts) c ok in bind_err (inner names c.1) _ f
-      (λ g. let q = inner_fails names c.1 m g in (if_then n c.0 q.0, part_in {c = true} tt (key_then opening refl (read_past (tested names c.0) c.1 test (within_in q.1)))))
+      (λ g. let q = inner_fails names c.1 m g in (if_then n c.0 q.0, part_in {c = true} tt (keyword_then opening refl (read_past (tested names c.0) c.1 test (within_in q.1)))))
       (λ s done g. let first = inner_sound names c.1 s done in branch_err (next_is_keyword the_keyword.Else s.1) _ _ s.1 g
       (λ b h.
       let q = inner_fails (after_stmt s.0 names) (skip s.1) m (map_err _ _ h) in
       let closed = shut (outlines.is_open s.0) (next_is_keyword the_keyword.Else s.1) first.closed b in
-      (if_else n c.0 s.0 q.0, part_in {c = true} tt (key_then opening refl (read_past (tested names c.0) c.1 test (within_past s.1 first.there (token_then closed (next_keyword the_keyword.Else s.1 b) tt (within_in q.1)))))))
+      (if_else n c.0 s.0 q.0, part_in {c = true} tt (keyword_then opening refl (read_past (tested names c.0) c.1 test (within_past s.1 first.there (token_then closed (next_keyword the_keyword.Else s.1 b) tt (within_in q.1)))))))
       (λ b h. absurd cc)))
 
   switch_fails : (names : Names) (ts m : List Token) → next_is_keyword the_keyword.Switch ts ≡ true → reader.stmt_by inner d begins_switch names (spot ts) ts ≡ Err m → (s : StmtTree Spot) × StmtBegun names (suc d) s ts m
@@ -169,38 +169,38 @@ module _ (inner : Names → Parser (StmtTree Spot)) (d : ℕ) (inner_sound : (na
       let n = spot ts in
       let none = block spots.start no_items in
       bind_err (reader.condition inner d names (skip ts)) _ e
-      (λ f. let q = condition_fails (λ c. outlines.within (outlines.block_of names none) ▸ end) names (skip ts) m f in (switch n q.0 none, part_in {c = true} tt (key_then opening refl q.1)))
+      (λ f. let q = condition_fails (λ c. outlines.within (outlines.block_of names none) ▸ end) names (skip ts) m f in (switch n q.0 none, part_in {c = true} tt (keyword_then opening refl q.1)))
       (λ c ok f.
       let q = body_fails names c.1 m (map_err _ _ f) in
-      (switch n c.0 q.0, part_in {c = true} tt (key_then opening refl (read_past (tested names c.0) c.1 (condition_read names (skip ts) c ok) (within_in q.1)))))
+      (switch n c.0 q.0, part_in {c = true} tt (keyword_then opening refl (read_past (tested names c.0) c.1 (condition_read names (skip ts) c ok) (within_in q.1)))))
 
   while_fails : (names : Names) (ts m : List Token) → next_is_keyword the_keyword.While ts ≡ true → reader.stmt_by inner d begins_while names (spot ts) ts ≡ Err m → (s : StmtTree Spot) × StmtBegun names (suc d) s ts m
   while_fails names ts m opening e =
       let n = spot ts in
       bind_err (reader.condition inner d names (skip ts)) _ e
-      (λ f. let q = condition_fails (λ c. outlines.within (outlines.stmt names no_stmt) ▸ end) names (skip ts) m f in (while_loop n q.0 no_stmt, part_in {c = true} tt (key_then opening refl q.1)))
+      (λ f. let q = condition_fails (λ c. outlines.within (outlines.stmt names no_stmt) ▸ end) names (skip ts) m f in (while_loop n q.0 no_stmt, part_in {c = true} tt (keyword_then opening refl q.1)))
       (λ c ok f.
       let q = inner_fails names c.1 m (map_err _ _ f) in
-      (while_loop n c.0 q.0, part_in {c = true} tt (key_then opening refl (read_past (tested names c.0) c.1 (condition_read names (skip ts) c ok) (within_in q.1)))))
+      (while_loop n c.0 q.0, part_in {c = true} tt (keyword_then opening refl (read_past (tested names c.0) c.1 (condition_read names (skip ts) c ok) (within_in q.1)))))
 
   do_fails : (names : Names) (ts m : List Token) → next_is_keyword the_keyword.Do ts ≡ true → reader.stmt_by inner d begins_do names (spot ts) ts ≡ Err m → (s : StmtTree Spot) × StmtBegun names (suc d) s ts m
   do_fails names ts m opening e =
       let n = spot ts in
       bind_err (inner names (skip ts)) _ e
-      (λ f. let q = inner_fails names (skip ts) m f in (do_loop n q.0 no_condition, part_in {c = true} tt (key_then opening refl (within_in q.1))))
+      (λ f. let q = inner_fails names (skip ts) m f in (do_loop n q.0 no_condition, part_in {c = true} tt (keyword_then opening refl (within_in q.1))))
       (λ s ok f.
       let first = inner_sound names (skip ts) s ok in
       let later : Names = after_stmt s.0 names in
       bind_err (and_then (take_keyword the_keyword.While s.1) (λ z. reader.condition inner d later)) _ f
       (λ g. take_keyword_bind the_keyword.While s.1 _ g
-      (λ h. (do_loop n s.0 no_condition, part_in {c = true} tt (key_then opening refl (within_past s.1 first.there (at h)))))
+      (λ h. (do_loop n s.0 no_condition, part_in {c = true} tt (keyword_then opening refl (within_past s.1 first.there (at h)))))
       (λ b h.
       let q = condition_fails (λ c. outlines.punct the_punct.Semicolon ▸ end) later (skip s.1) m h in
-      (do_loop n s.0 q.0, part_in {c = true} tt (key_then opening refl (within_past s.1 first.there (key_then b tt q.1))))))
+      (do_loop n s.0 q.0, part_in {c = true} tt (keyword_then opening refl (within_past s.1 first.there (keyword_then b tt q.1))))))
       (λ c done g.
       let t = take_keyword_bind_ok the_keyword.While s.1 (λ z. reader.condition inner d later) c done in
       let test = condition_read later (skip s.1) c t.1 in
-      (do_loop n s.0 c.0, part_in {c = true} tt (key_then opening refl (within_past s.1 first.there (key_then t.0 tt (read_past (tested later c.0) c.1 test (at (until_err the_punct.Semicolon (do_loop n s.0 c.0) c.1 g)))))))))
+      (do_loop n s.0 c.0, part_in {c = true} tt (keyword_then opening refl (within_past s.1 first.there (keyword_then t.0 tt (read_past (tested later c.0) c.1 test (at (until_err the_punct.Semicolon (do_loop n s.0 c.0) c.1 g)))))))))
 
   -- a `for` up to the end of its first clause
   abbrev for_start : Names → Spot → StartTree Spot → Outline
@@ -211,10 +211,10 @@ module _ (inner : Names → Parser (StmtTree Spot)) (d : ℕ) (inner_sound : (na
       → Reads (outlines.clause (after_start start names) each) d (skip between) ts → and_then (take the_punct.RightParen ts) (λ z. for_loop n start test each <$> inner (after_start start names)) ≡ Err m → (s : StmtTree Spot) × StmtBegun names (suc d) s from m
   loop_fails names n start from middle ts m test each between before first semicolon second e =
       take_bind the_punct.RightParen ts _ e
-      (λ h. (for_loop n start test each no_stmt, part_in {c = true} tt (read_past (for_start names n start) middle before (within_past between first (sign_then semicolon tt (within_past ts second (at h)))))))
+      (λ h. (for_loop n start test each no_stmt, part_in {c = true} tt (read_past (for_start names n start) middle before (within_past between first (punct_then semicolon tt (within_past ts second (at h)))))))
       (λ b h.
       let q = inner_fails (after_start start names) (skip ts) m (map_err _ _ h) in
-      (for_loop n start test each q.0, part_in {c = true} tt (read_past (for_start names n start) middle before (within_past between first (sign_then semicolon tt (within_past ts second (sign_then b tt (within_in q.1))))))))
+      (for_loop n start test each q.0, part_in {c = true} tt (read_past (for_start names n start) middle before (within_past between first (punct_then semicolon tt (within_past ts second (punct_then b tt (within_in q.1))))))))
 
   for_behind_fails : (names : Names) (n : Spot) (start : StartTree Spot) (from ts m : List Token) → Reads (for_start names n start) d from ts → reader.for_behind inner d names n start ts ≡ Err m → (s : StmtTree Spot) × StmtBegun names (suc d) s from m
   for_behind_fails names n start from ts m before e =
@@ -228,7 +228,7 @@ module _ (inner : Names → Parser (StmtTree Spot)) (d : ℕ) (inner_sound : (na
       (λ h. (for_loop n start y.0 None no_stmt, part_in {c = true} tt (read_past (for_start names n start) ts before (within_past y.1 first (at h)))))
       (λ b h.
       let q = clause_fails later (next_is the_punct.RightParen) (skip y.1) m h in
-      (for_loop n start y.0 q.0 no_stmt, part_in {c = true} tt (read_past (for_start names n start) ts before (within_past y.1 first (sign_then b tt (within_in q.1)))))))
+      (for_loop n start y.0 q.0 no_stmt, part_in {c = true} tt (read_past (for_start names n start) ts before (within_past y.1 first (punct_then b tt (within_in q.1)))))))
       (λ z done g.
       let t = take_bind_ok the_punct.Semicolon y.1 (λ x. reader.clause_until inner d later (next_is the_punct.RightParen)) z done in
       let second = clause_sound readers_sound inner d later (next_is the_punct.RightParen) (skip y.1) z t.1 in
@@ -239,8 +239,8 @@ module _ (inner : Names → Parser (StmtTree Spot)) (d : ℕ) (inner_sound : (na
       let n = spot ts in
       bind_err (and_then (take the_punct.LeftParen (skip ts)) (λ z. reader.start_clause inner d names)) _ e
       (λ f. take_bind the_punct.LeftParen (skip ts) _ f
-      (λ h. (for_loop n no_start None None no_stmt, part_in {c = true} tt (key_then opening refl (at h))))
-      (λ b g. let q = start_fails names (skip (skip ts)) m g in (for_loop n q.0 None None no_stmt, part_in {c = true} tt (key_then opening refl (sign_then b tt (within_in q.1))))))
+      (λ h. (for_loop n no_start None None no_stmt, part_in {c = true} tt (keyword_then opening refl (at h))))
+      (λ b g. let q = start_fails names (skip (skip ts)) m g in (for_loop n q.0 None None no_stmt, part_in {c = true} tt (keyword_then opening refl (punct_then b tt (within_in q.1))))))
       (λ y ok f.
       let t = take_bind_ok the_punct.LeftParen (skip ts) (λ z. reader.start_clause inner d names) y ok in
       let first = start_sound readers_sound inner d names (skip (skip ts)) y t.1 in
@@ -251,10 +251,10 @@ module _ (inner : Names → Parser (StmtTree Spot)) (d : ℕ) (inner_sound : (na
   return_fails names ts m opening e =
       let n = spot ts in
       bind_err (reader.clause_until inner d names (next_is the_punct.Semicolon) (skip ts)) _ e
-      (λ f. let q = clause_fails names (next_is the_punct.Semicolon) (skip ts) m f in (return n q.0, part_in {c = true} tt (key_then opening refl (within_in q.1))))
+      (λ f. let q = clause_fails names (next_is the_punct.Semicolon) (skip ts) m f in (return n q.0, part_in {c = true} tt (keyword_then opening refl (within_in q.1))))
       (λ y ok f.
       let first = clause_sound readers_sound inner d names (next_is the_punct.Semicolon) (skip ts) y ok in
-      (return n y.0, part_in {c = true} tt (key_then opening refl (within_past y.1 first (at (until_err the_punct.Semicolon (return n y.0) y.1 f))))))
+      (return n y.0, part_in {c = true} tt (keyword_then opening refl (within_past y.1 first (at (until_err the_punct.Semicolon (return n y.0) y.1 f))))))
 
   other_fails : (names : Names) (ts m : List Token) → reader.stmt_by inner d begins_other names (spot ts) ts ≡ Err m → (s : StmtTree Spot) × StmtBegun names (suc d) s ts m
   other_fails names ts m e =
@@ -271,8 +271,8 @@ module _ (inner : Names → Parser (StmtTree Spot)) (d : ℕ) (inner_sound : (na
   by_fails begins_while names ts m opening e = while_fails names ts m opening e
   by_fails begins_do names ts m opening e = do_fails names ts m opening e
   by_fails begins_for names ts m opening e = for_fails names ts m opening e
-  by_fails begins_break names ts m opening e = (break (spot ts), part_in {c = true} tt (key_then opening refl (at (until_err the_punct.Semicolon (break (spot ts)) (skip ts) e))))
-  by_fails begins_continue names ts m opening e = (continue (spot ts), part_in {c = true} tt (key_then opening refl (at (until_err the_punct.Semicolon (continue (spot ts)) (skip ts) e))))
+  by_fails begins_break names ts m opening e = (break (spot ts), part_in {c = true} tt (keyword_then opening refl (at (until_err the_punct.Semicolon (break (spot ts)) (skip ts) e))))
+  by_fails begins_continue names ts m opening e = (continue (spot ts), part_in {c = true} tt (keyword_then opening refl (at (until_err the_punct.Semicolon (continue (spot ts)) (skip ts) e))))
   by_fails begins_return names ts m opening e = return_fails names ts m opening e
   by_fails begins_case names ts m opening e = (no_stmt, at (err_is {A = StmtTree Spot} e))
   by_fails begins_default names ts m opening e = (no_stmt, at (err_is {A = StmtTree Spot} e))

@@ -20,7 +20,7 @@ use Rattle.cc_parse_laws.proofs.Steps.{next_reads}
 use Rattle.cc_parse_laws.proofs.Lists.{Span, IsSound, Others, Separated, separated_sound}
 use Rattle.cc_parse_laws.proofs.Inner.{ReadsExpr, Suits, SoundInner}
 use Rattle.cc_parse_laws.proofs.SoundTypes.{typed_sound, typed_parameter, Typed}
-use Rattle.cc_parse_places.proofs.Begun.{Begun, Part, at, sign_then, part_in, part_past, part_of, within_in, within_past}
+use Rattle.cc_parse_places.proofs.Begun.{Begun, Part, at, punct_then, part_in, part_past, part_of, within_in, within_past}
 use Rattle.cc_parse_places.proofs.Failures.{err_is, bind_err, map_err, branch_err, take_bind, until_err}
 
 -- What the readers of what stands in a counted node have begun where they fail.
@@ -159,8 +159,8 @@ module _ (names : Names) (inner : Inner) (d : ℕ) (good : SoundInner names inne
 
   others_begun : (us : List (TypeTree Spot)) (ts m : List Token) → OthersBegun (Typed names inner d good with_or_without) (TypeBegun with_or_without) us ts m → Begun (outlines.more_parameters names (gathered_types us)) d ts m
   others_begun [] ts m x = at x
-  others_begun (u ∷ us) ts m (c, inl x) = sign_then c tt (within_in (parameter_begun u (skip ts) m x))
-  others_begun (u ∷ us) ts m (c, inr x) = sign_then c tt (within_past x.0 (typed_parameter names inner d good u (skip ts) x.0 x.1) (within_in (others_begun us x.0 m x.2)))
+  others_begun (u ∷ us) ts m (c, inl x) = punct_then c tt (within_in (parameter_begun u (skip ts) m x))
+  others_begun (u ∷ us) ts m (c, inr x) = punct_then c tt (within_past x.0 (typed_parameter names inner d good u (skip ts) x.0 x.1) (within_in (others_begun us x.0 m x.2)))
 
   some_begun : (us : List (TypeTree Spot)) (ts m : List Token) → SomeBegun (Typed names inner d good with_or_without) (TypeBegun with_or_without) us ts m → Begun (outlines.parameters names (gathered_types us)) d ts m
   some_begun [] ts m x = absurd x
@@ -195,8 +195,8 @@ module _ (names : Names) (inner : Inner) (d : ℕ) (good : SoundInner names inne
 
   others_of_arguments : (es : List (ExprTree Spot)) (ts m : List Token) → OthersBegun Argument ArgumentBegun es ts m → Begun (outlines.more_arguments names (gathered es)) d ts m
   others_of_arguments [] ts m x = at x
-  others_of_arguments (e ∷ es) ts m (c, inl x) = sign_then c tt (part_of x.0 x.1)
-  others_of_arguments (e ∷ es) ts m (c, inr x) = sign_then c tt (part_past {c = true} x.0 x.1.0 x.1.1 (within_in (others_of_arguments es x.0 m x.2)))
+  others_of_arguments (e ∷ es) ts m (c, inl x) = punct_then c tt (part_of x.0 x.1)
+  others_of_arguments (e ∷ es) ts m (c, inr x) = punct_then c tt (part_past {c = true} x.0 x.1.0 x.1.1 (within_in (others_of_arguments es x.0 m x.2)))
 
   arguments_begun : (es : List (ExprTree Spot)) (ts m : List Token) → SomeBegun Argument ArgumentBegun es ts m → Begun (outlines.arguments names (gathered es)) d ts m
   arguments_begun [] ts m x = absurd x

@@ -6,6 +6,7 @@ use Rattle.cc_lex.specs.declared.token.Token.{Token}
 use Rattle.cc_tree.specs.Trees.{ExternalTree}
 use Rattle.cc_grammar.specs.Outline.{Outline, end, token, part, Meets, Written, size, first, spell}
 use Rattle.cc_grammar.specs.Outlines as outlines
+use Rattle.cc_grammar.specs.CutOff.{CutOff}
 use Rattle.cc_parse_laws.proofs.Spans.{Inside, Reads, reads_hold, reads_depth, reads_spell}
 use Rattle.cc_parse_laws.proofs.Steps.{reads_length}
 use Rattle.cc_parse_places.proofs.Forks.{Ending, ending_of}
@@ -16,7 +17,7 @@ inside_holds false P Q give d x = give d x
 inside_holds true P Q give zero x = absurd x
 inside_holds true P Q give (suc d) x = give d x
 
-inside_maps : (c : Bool) (P Q : ℕ → Type 0) (d : ℕ) → ((e : ℕ) → P e → Q e) → Inside c P d → Inside c Q d
+pub inside_maps : (c : Bool) (P Q : ℕ → Type 0) (d : ℕ) → ((e : ℕ) → P e → Q e) → Inside c P d → Inside c Q d
 inside_maps false P Q d f x = f d x
 inside_maps true P Q zero f x = x
 inside_maps true P Q (suc d) f x = f d x
@@ -115,7 +116,7 @@ front_is c tokens r is =
     ap (λ n. take n tokens) count ∙ ap (take (length c)) is ∙ take-append_seam c r
 
 -- The tokens up to where a file is cut off are the spelling of the cut-off file.
-pub is_cut_off : (d : ℕ) (tokens r : List Token) (f : List (ExternalTree Spot)) → Begun (outlines.file f) d tokens r → outlines.CutOff d (take (length tokens - length r) tokens)
+pub is_cut_off : (d : ℕ) (tokens r : List Token) (f : List (ExternalTree Spot)) → Begun (outlines.file f) d tokens r → CutOff d (take (length tokens - length r) tokens)
 is_cut_off d tokens r f b =
     let q = cut_first (outlines.file f) d tokens r b.cut in
     let i = first q.0 (outlines.file f) in

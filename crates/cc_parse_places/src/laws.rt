@@ -3,36 +3,38 @@ ghost use Rattle.std.specs.Prelude.{◌≡◌, ◌-◌, ℕ, List, ◌∷◌, �
 ghost use Rattle.cc_base.specs.declared.place.Spot.{Spot as SpotValue};
 ghost use Rattle.cc_lex.specs.declared.token.Token.{Token as TokenValue};
 ghost use Rattle.cc_tree.specs.Trees.{ExternalTree};
-ghost use Rattle.cc_grammar.specs.Outlines.{CutOff, WellFormed, limit};
+ghost use Rattle.cc_grammar.specs.CutOff.{CutOff};
 ghost use Rattle.cc_grammar.specs.Reading.{reading};
+ghost use Rattle.cc_grammar.specs.WellFormed.{WellFormed};
 
 /// Where reading fails at a token, it fails there whatever follows the token.
 pub fn a_token_is_refused_whatever_follows()
-    ensures { (deepest : ℕ) (before : List TokenValue) (refused : TokenValue) (rest more : List TokenValue)
-        → reading deepest (before ++ refused ∷ rest) ≡ Err (refused ∷ rest) → reading deepest (before ++ refused ∷ more) ≡ Err (refused ∷ more) }
+    ensures { (deepest : ℕ) (before : List TokenValue) (refused : TokenValue)
+        (rest more : List TokenValue)
+        → reading deepest (before ++ refused ∷ rest) ≡ Err (refused ∷ rest)
+        → reading deepest (before ++ refused ∷ more) ≡ Err (refused ∷ more) }
 {}
 
 /// No file of the grammar begins with the tokens up to the one at which reading fails and that token.
 pub fn no_file_begins_so()
-    ensures { (tokens : List TokenValue) (refused : TokenValue) (rest : List TokenValue) → reading limit tokens ≡ Err (refused ∷ rest)
-        → (more : List TokenValue) (f : List (ExternalTree SpotValue)) → WellFormed (take (length tokens - length rest) tokens ++ more) f → ⊥ }
+    ensures { (deepest : ℕ) (tokens : List TokenValue) (refused : TokenValue)
+        (rest : List TokenValue)
+        → reading deepest tokens ≡ Err (refused ∷ rest)
+        → (more : List TokenValue) (f : List (ExternalTree SpotValue))
+        → WellFormed deepest (take (length tokens - length rest) tokens ++ more) f → ⊥ }
 {}
 
-/// The tokens before the place at which reading fails are the spelling of a cut-off tree, orderly and no deeper as far as it is
-/// there.
+/// The tokens before the place at which reading fails are the spelling of a cut-off file.
 pub fn the_tokens_before_are_a_cut_off_file()
-    ensures { (deepest : ℕ) (tokens left : List TokenValue) → reading deepest tokens ≡ Err left → CutOff deepest (take (length tokens - length left) tokens) }
+    ensures { (deepest : ℕ) (tokens left : List TokenValue)
+        → reading deepest tokens ≡ Err left
+        → CutOff deepest (take (length tokens - length left) tokens) }
 {}
 
-#[cfg(test)]
-mod tests {
-    use super::*;
-
-    // The laws do nothing; that they can be called is all that there is to see.
-    #[test]
-    fn laws() {
-        a_token_is_refused_whatever_follows();
-        no_file_begins_so();
-        the_tokens_before_are_a_cut_off_file();
-    }
-}
+/// No cut-off file is spelled by the tokens up to the one at which reading fails and that token.
+pub fn no_cut_off_file_begins_so()
+    ensures { (deepest : ℕ) (tokens : List TokenValue) (refused : TokenValue)
+        (rest : List TokenValue)
+        → reading deepest tokens ≡ Err (refused ∷ rest)
+        → CutOff deepest (take (length tokens - length rest) tokens) → ⊥ }
+{}
