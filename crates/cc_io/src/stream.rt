@@ -1,7 +1,8 @@
 // A sink over a writer.
-ghost use Rattle.std.specs.Prelude.{◌≡◌, ℕ, None, take};
+ghost use Rattle.std.specs.Prelude.{◌≡◌, ◌≤◌, ℕ, IsErrOf, None, take};
 ghost use Rattle.std.specs.Bool.{OnTrue};
 ghost use Rattle.std.specs.Io.KnownBytes.{Appends};
+ghost use Rattle.cc_io.specs.Count.{Rose};
 
 use crate::{Sink, SinkFault};
 use std::io::{ErrorKind, Write};
@@ -59,7 +60,12 @@ impl<W: Write + Drop> Sink for StreamSink<W> {
 
     ghost faults = { λ s. s };
 
-    fn put(&mut self, bytes: &[u8]) -> Result<(), SinkFault> {
+    // What the trait promises of a sink that tells no bytes, and that memory is never wanting.
+    fn put(&mut self, bytes: &[u8]) -> Result<(), SinkFault>
+        ensures faults_stay { self.old ≤ self.new }
+        ensures failed { IsErrOf result SinkFault.Failed → Rose self.old self.new }
+        ensures never_memory { IsErrOf result SinkFault.Memory → ⊥ }
+    {
         if write_whole(&mut self.writer, bytes) {
             Ok(())
         } else {
