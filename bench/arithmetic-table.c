@@ -75,22 +75,22 @@ static int cell(void) {
 
 #define CELL(e) printf(" "); if (!cell()) { __auto_type value = (e); put((Wide)value); fflush(stdout); _exit(0); }
 
-#define OPERANDS(J, x, L, y) printf("%s ", #J); put((Wide)x); printf(" %s ", #L); put((Wide)y); printf(":");
+#define OPERANDS(J, x, L, y) printf("%s ", #J); put((Wide)x); printf(" %s ", #L); put((Wide)y);
 
 #define BINARY(J, a, L, b) do { volatile J x = (J)(a); volatile L y = (L)(b); OPERANDS(J, x, L, y) \
     CELL(x + y) CELL(x - y) CELL(x * y) CELL(x / y) CELL(x % y) CELL(x & y) CELL(x | y) CELL(x ^ y) \
     CELL(x << y) CELL(x >> y) CELL(x < y) CELL(x <= y) CELL(x > y) CELL(x >= y) CELL(x == y) CELL(x != y) \
     printf("\n"); } while (0);
 
-#define UNARY(J, a) do { volatile J x = (J)(a); printf("%s ", #J); put((Wide)x); printf(":"); \
+#define UNARY(J, a) do { volatile J x = (J)(a); printf("%s ", #J); put((Wide)x); \
     CELL(+x) CELL(-x) CELL(~x) CELL(!x) printf("\n"); } while (0);
 
-#define CONVERT(v) do { volatile Wide x = (v); put(x); printf(":"); \
+#define CONVERT(v) do { volatile Wide x = (v); put(x); \
     CELL((Bool)x) CELL((Char)x) CELL((SChar)x) CELL((UChar)x) CELL((Short)x) CELL((UShort)x) \
     CELL((Int)x) CELL((UInt)x) CELL((Long)x) CELL((ULong)x) CELL((LLong)x) CELL((ULLong)x) printf("\n"); } while (0);
 
-#define KIND(J, low, high) do { printf("%s: ", #J); put(low); printf(" "); put(high); \
-    printf(" %s: %s %s %s %s %s %s %s %s %s %s %s %s\n", NAME(+(J)0), \
+#define KIND(J, low, high) do { printf("%s ", #J); put(low); printf(" "); put(high); \
+    printf(" %s %s %s %s %s %s %s %s %s %s %s %s %s\n", NAME(+(J)0), \
     NAME((J)0 + (Bool)0), NAME((J)0 + (Char)0), NAME((J)0 + (SChar)0), NAME((J)0 + (UChar)0), \
     NAME((J)0 + (Short)0), NAME((J)0 + (UShort)0), NAME((J)0 + (Int)0), NAME((J)0 + (UInt)0), \
     NAME((J)0 + (Long)0), NAME((J)0 + (ULong)0), NAME((J)0 + (LLong)0), NAME((J)0 + (ULLong)0)); } while (0);

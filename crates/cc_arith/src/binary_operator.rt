@@ -68,7 +68,7 @@ pub fn binary(op: IntOp, k: IntKind, a: i128, b: i128) -> Result<i128, ArithUnde
     result_of(op, k, a, b)
 }
 
-// The same, with the first clause alone.
+// What `binary` gives. The other clauses of `binary` follow from this one by the laws of the definitions.
 fn result_of(op: IntOp, k: IntKind, a: i128, b: i128) -> Result<i128, ArithUndef>
     requires kind { IsPromoted k }
     requires left { IsInRange k a }

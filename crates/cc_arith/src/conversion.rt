@@ -21,7 +21,7 @@ pub fn convert(k: IntKind, v: i128) -> i128
     value_in(k, v)
 }
 
-// The same, with the first clause alone.
+// What `convert` gives. The other clauses of `convert` follow from this one by the laws of the definitions.
 pub(crate) fn value_in(k: IntKind, v: i128) -> i128
     ensures { result ≡ converted k v }
 {

@@ -12,7 +12,7 @@ pub fn conversion_laws()
 {}
 
 /// The promotions and the usual arithmetic conversions give promoted kinds; promotion loses no value, and
-/// the common kind is symmetric (C17 6.3.1.1, 6.3.1.8).
+/// the common kind of two kinds is the same in either order (C17 6.3.1.1, 6.3.1.8).
 pub fn promotion_laws()
     ensures promotes { PromotionPromotes }
     ensures keeps_values { PromotionKeepsValues }
@@ -28,7 +28,8 @@ pub fn result_laws()
     ensures not_gives_truth { NotGivesTruth }
 {}
 
-/// A value and its bits determine each other (C17 6.2.6.2), and `~a` is -1 - a (6.5.3.3).
+/// In every kind but `Bool` a value and its bits determine each other (C17 6.2.6.2). In a promoted kind `~a` is -1 - a,
+/// if it is signed, and else the greatest value less `a` (6.5.3.3).
 pub fn bit_laws()
     ensures value_has_its_bits { ValueHasItsBits }
     ensures bits_give_the_value { BitsGiveTheValue }

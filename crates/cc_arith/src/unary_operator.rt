@@ -38,7 +38,7 @@ pub fn unary(op: IntUnary, k: IntKind, a: i128) -> Result<i128, ArithUndef>
     result_of(op, k, a)
 }
 
-// The same, with the first clause alone.
+// What `unary` gives. The other clauses of `unary` follow from this one by the laws of the definitions.
 fn result_of(op: IntUnary, k: IntKind, a: i128) -> Result<i128, ArithUndef>
     requires kind { IsPromoted k }
     requires left { IsInRange k a }

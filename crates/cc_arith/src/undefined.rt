@@ -1,3 +1,5 @@
+// Why an operator gives no result.
+
 /// Why an operator gives no result: what C17 leaves undefined.
 #[derive(Clone, Copy, Debug, PartialEq, Eq)]
 pub enum ArithUndef {
