@@ -15,6 +15,7 @@ use Rattle.cc_first.specs.declared.token.Kind.{Kind}
 use Rattle.cc_first.specs.declared.token.Kind.TheVariants as kind
 use Rattle.cc_first.specs.declared.token.Token.{Token}
 use Rattle.std.proofs.lemmas.Bool.{and_parts, and_from}
+use Rattle.cc_lex.specs.Spellings.{keywords}
 
 pub begins_append : (a b c : List Token) (ts us : List Spelled) → Begins a ts b → Begins b us c → Begins a (ts ++ us) c
 begins_append a b c [] us p q = subst (λ (x : List Token). Begins x us c) (sym p) q
@@ -94,8 +95,13 @@ name_sound token (kind.Name text) at name e s k h =
     ((t ∙ ap text_of e, p ∙ s), subst (λ (w : List ℕ). is_free_name w ≡ true) (sym t) k)
 name_sound token (kind.Mark m) at name e s k h = absurd cc
 
+-- `void` is a keyword
+void_not_free : is_free_name (codes "void") ≡ false
+unfolding keywords
+void_not_free = refl
+
 name_complete : (found : Kind) (at : Spot) (name : Name) → IsFree name → name.text ≡ text_of found → name.spot ≡ at → name_in found at ≡ Some name
-name_complete kind.Void at name f e s = let g : is_free_name (codes "void") ≡ true = subst (λ (w : List ℕ). is_free_name w ≡ true) e f in let h : false ≡ true = g in absurd cc
+name_complete kind.Void at name f e s = let g : is_free_name (codes "void") ≡ true = subst (λ (w : List ℕ). is_free_name w ≡ true) e f in let h : is_free_name (codes "void") ≡ false = void_not_free in absurd cc
 name_complete (kind.Name text) at name f e s = ap (λ (x : Name). Some x) (same_name (record { text = text.now; spot = at }) name (sym e) (sym s))
 name_complete (kind.Mark m) at name f e s =
     let g : is_free_name (mark_byte m ∷ []) ≡ true = subst (λ (w : List ℕ). is_free_name w ≡ true) e f in

@@ -20,3 +20,7 @@ pub record IsEntry (program : Program) (entry : List ℕ) (e : ℕ) : Type 0 whe
 -- the program has the entry and is whole
 abbrev pub IsLinked : Program → List ℕ → ℕ → Type 0
 IsLinked program entry e = IsWhole program × IsEntry program entry e
+
+-- the program is not whole or has no such entry
+abbrev pub IsUnlinked : Program → List ℕ → Type 0
+IsUnlinked program entry = (e : ℕ) → IsLinked program entry e → ⊥

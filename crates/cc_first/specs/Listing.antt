@@ -4,6 +4,7 @@ use Rattle.std.specs.Fmt.{decimal}
 use Rattle.cc_base.specs.declared.place.Spot.{Spot}
 use Rattle.cc_first_runs.specs.Program.{Name, Function, Program, IsSite}
 use Rattle.cc_first_runs.specs.Couplings.{Row, AreCouplings}
+use Rattle.cc_first.specs.Linked.{IsLinked}
 use Rattle.cc_first.specs.Project.{Component, Project}
 
 -- the first line of the table
@@ -38,3 +39,7 @@ AreLines project program number (row ∷ rows) text =
 abbrev pub IsListing : Project → Program → ℕ → List ℕ → Type 0
 IsListing project program entry text =
     (rows : List Row) × AreCouplings program entry rows × (lines : List ℕ) × AreLines project program 1 rows lines × (text ≡ header ++ lines)
+
+-- the text is the table of a whole program with the project's entry
+abbrev pub IsTable : Project → Program → List ℕ → Type 0
+IsTable project program text = (e : ℕ) × IsLinked program project.entry e × IsListing project program e text

@@ -38,6 +38,10 @@ abbrev pub names_of_part : Part → List Name
 names_of_part (Declaration name) = name ∷ []
 names_of_part (Definition name calls) = name ∷ calls
 
+-- the names of the parts are no keywords and no words of extensions
+abbrev pub HaveFreeNames : List Part → Type 0
+HaveFreeNames parts = All (λ name. is_free_name name.text ≡ true) (flat_map names_of_part parts)
+
 -- each called name stands earlier in the file as the name of a part, that of its own function included
 abbrev pub CallsStand : List (List ℕ) → List Part → Type 0
 CallsStand heads [] = Unit {0}
@@ -47,7 +51,7 @@ CallsStand heads (Definition name calls ∷ parts) = All (λ call. Contains (nam
 -- the bytes are a C file of the first form with these parts
 pub record IsUnit (bytes : List ℕ) (parts : List Part) : Type 0 where
   pub spelled : IsCut start bytes (unit_tokens parts)
-  pub free : All (λ name. is_free_name name.text ≡ true) (flat_map names_of_part parts)
+  pub free : HaveFreeNames parts
   pub calls : CallsStand [] parts
 
 -- the functions that a file with this number defines

@@ -1,14 +1,15 @@
 // The table of the call couplings.
-ghost use Rattle.std.specs.Prelude.{◌≡◌, ◌++◌, ◌∷◌, [], ℕ, All, IfOk, IfSome, IfNone, OnOk, true, codes, map, string_bytes};
+ghost use Rattle.std.specs.Prelude.{◌≡◌, ◌++◌, ◌∷◌, [], All, IfNone, IfOk, IfSome, OnOk, codes, map, string_bytes, true};
 ghost use Rattle.std.specs.List.{flat_map};
 ghost use Rattle.csv.specs.Writing.{default_writer, row_text};
-ghost use Rattle.cc_first.specs.Linked.{IsLinked};
+ghost use Rattle.cc_first.specs.Linked.{IsUnlinked};
 ghost use Rattle.cc_first.specs.SoundProgram.{IsSound};
-ghost use Rattle.cc_first.specs.Listing.{IsListing, component_of, place_text};
-ghost use Rattle.cc_first.specs.ListingRows.{IsFresh, IsWithin, fields_of_call, fields_from, header_fields, row_fields, written};
+ghost use Rattle.cc_first.specs.Listing.{IsListing, IsTable, component_of, place_text};
+ghost use Rattle.cc_first.specs.ListingRows.{IsFresh, IsWithin, written};
+ghost use Rattle.cc_first.specs.ListingRows.{fields_from, fields_of_call, header_fields, row_fields};
 ghost use Rattle.cc_first.specs.Names.{is_free_name};
 ghost use Rattle.cc_first.specs.Project.{IsWell};
-ghost use Rattle.cc_first.specs.Unit.{names_of_part, program_of};
+ghost use Rattle.cc_first.specs.Unit.{HaveFreeNames, program_of};
 ghost use Rattle.cc_first.specs.Views.{component_view, parts_view, program_view, project_view};
 
 use crate::paths::coupling_calls;
@@ -59,7 +60,8 @@ fn row_of<'a>(
     call: &Call<'a>,
 ) -> Result<Row<'a>, AllocError>
     requires { IsWithin program.now.functions.items call.now }
-    ensures { IfOk result (λ row. row_fields row ≡ fields_of_call (project_view project.now) program.now.functions.items number call.now) }
+    ensures { IfOk result (λ row. row_fields row
+        ≡ fields_of_call (project_view project.now) program.now.functions.items number call.now) }
 {
     let caller = program.functions[call.caller];
     let callee = program.functions[call.callee];
@@ -83,7 +85,8 @@ fn rows_of<'a>(
     couplings: &[Call<'a>],
 ) -> Result<Vec<Row<'a>>, AllocError>
     requires { All (IsWithin program.now.functions.items) couplings.now }
-    ensures { IfOk result (λ rows. map row_fields rows.items ≡ fields_from (project_view project.now) program.now.functions.items 1 couplings.now) }
+    ensures { IfOk result (λ rows. map row_fields rows.items
+        ≡ fields_from (project_view project.now) program.now.functions.items 1 couplings.now) }
 {
     let mut rows = Vec::new(alloc);
     for (i, call) in couplings.iter().enumerate() {
@@ -94,7 +97,8 @@ fn rows_of<'a>(
 
 fn write_header(writer: &mut Writer<Vec<u8>>) -> Result<(), CsvError>
     requires { IsFresh writer.old }
-    ensures { OnOk result (IsFresh writer.new × (written writer.new ≡ written writer.old ++ row_text default_writer header_fields)) }
+    ensures { OnOk result (IsFresh writer.new
+        × (written writer.new ≡ written writer.old ++ row_text default_writer header_fields)) }
 {
     writer.write_fields(&[
         b"row".as_slice(),
@@ -117,7 +121,9 @@ fn write_fields(
     name: &str,
 ) -> Result<(), CsvError>
     requires { IsFresh writer.old }
-    ensures { OnOk result (IsFresh writer.new × (written writer.new ≡ written writer.old ++ row_text default_writer (number.now ∷ codes "call" ∷ from.now ∷ to.now ∷ definition.now ∷ used.now ∷ name.now ∷ []))) }
+    ensures { OnOk result (IsFresh writer.new
+        × (written writer.new ≡ written writer.old ++ row_text default_writer
+        (number.now ∷ codes "call" ∷ from.now ∷ to.now ∷ definition.now ∷ used.now ∷ name.now ∷ []))) }
 {
     writer.write_fields(&[
         number.as_bytes(),
@@ -131,7 +137,8 @@ fn write_fields(
 }
 
 fn table_text(alloc: Global, rows: &[Row<'_>]) -> Result<Vec<u8>, CsvError>
-    ensures { IfOk result (λ text. text.items ≡ row_text default_writer header_fields ++ flat_map (λ row. row_text default_writer (row_fields row)) rows.now) }
+    ensures { IfOk result (λ text. text.items ≡ row_text default_writer header_fields
+        ++ flat_map (λ row. row_text default_writer (row_fields row)) rows.now) }
 {
     let mut writer = WriterBuilder::new().from_writer(Vec::new(alloc));
     write_header(&mut writer)?;
@@ -161,7 +168,8 @@ fn program_table(
     requires well { IsWell (project_view project.now) }
     requires sound { IsSound program.now }
     requires free { All (λ function. is_free_name function.head.text ≡ true) (program_view program.now) }
-    ensures { IfOk result (λ text. IsListing (project_view project.now) (program_view program.now) program.now.entry text.items) }
+    ensures { IfOk result (λ text. IsListing (project_view project.now) (program_view program.now)
+        program.now.entry text.items) }
 {
     let couplings = coupling_calls(alloc, program)?;
     let rows = rows_of(alloc, project, program, &couplings)?;
@@ -180,13 +188,12 @@ pub fn table(
     second: &[Part<'_>],
 ) -> Result<Option<Vec<u8>>, AllocError>
     requires well { IsWell (project_view project.now) }
-    requires first { All (λ name. is_free_name name.text ≡ true) (flat_map names_of_part (parts_view first.now)) }
-    requires second { All (λ name. is_free_name name.text ≡ true) (flat_map names_of_part (parts_view second.now)) }
-    ensures some { IfOk result (λ table. IfSome table (λ text. (e : ℕ)
-        × IsLinked (program_of (parts_view first.now) (parts_view second.now)) project.now.entry.now e
-        × IsListing (project_view project.now) (program_of (parts_view first.now) (parts_view second.now)) e text.items)) }
-    ensures none { IfOk result (λ table. IfNone table (
-        (e : ℕ) → IsLinked (program_of (parts_view first.now) (parts_view second.now)) project.now.entry.now e → ⊥)) }
+    requires first { HaveFreeNames (parts_view first.now) }
+    requires second { HaveFreeNames (parts_view second.now) }
+    ensures some { IfOk result (λ table. IfSome table (λ text. IsTable (project_view project.now)
+        (program_of (parts_view first.now) (parts_view second.now)) text.items)) }
+    ensures none { IfOk result (λ table. IfNone table (IsUnlinked
+        (program_of (parts_view first.now) (parts_view second.now)) project.now.entry.now)) }
 {
     match link(alloc, first, second, project.entry)? {
         Some(program) => Ok(Some(program_table(alloc, project, &program)?)),

@@ -1,10 +1,9 @@
 // The program that two files of the first form make.
 ghost use Rattle.std.specs.Prelude.{◌≡◌, ◌≢◌, ◌++◌, ℕ, List, All, AllPairs, Contains, IfOk, IfSome, IfNone, IsTrue, false, map};
 ghost use Rattle.std.specs.List.{AllZip};
-ghost use Rattle.cc_first.specs.Linked.{IsLinked};
 ghost use Rattle.cc_first.specs.SoundProgram.{IsSound};
 ghost use Rattle.cc_first.specs.Linking.{AreCalls, AreNumbered, IsCallFrom, bare, bare_view, names_of, texts_of};
-ghost use Rattle.cc_first.specs.Linked.{heads_of};
+ghost use Rattle.cc_first.specs.Linked.{IsLinked, IsUnlinked, heads_of};
 ghost use Rattle.cc_first.specs.Unit.{functions_of, program_of};
 ghost use Rattle.cc_first.specs.Views.{name_view, parts_view, program_view};
 
@@ -126,8 +125,8 @@ pub fn link<'a>(
     ensures some { IfOk result (λ linked. IfSome linked (λ program.
         (program_view program ≡ program_of (parts_view first.now) (parts_view second.now))
         × IsLinked (program_view program) entry.now program.entry × IsSound program)) }
-    ensures none { IfOk result (λ linked. IfNone linked (
-        (e : ℕ) → IsLinked (program_of (parts_view first.now) (parts_view second.now)) entry.now e → ⊥)) }
+    ensures none { IfOk result (λ linked. IfNone linked (IsUnlinked
+        (program_of (parts_view first.now) (parts_view second.now)) entry.now)) }
 {
     let mut names = IndexSet::new(alloc);
     let mut functions = Vec::new(alloc);

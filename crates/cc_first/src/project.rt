@@ -36,8 +36,10 @@ pub struct Project<'a> {
 
 /// The document of the bytes, or none where they are no UTF-8 or no TOML document. The error is want of memory.
 pub fn read_document(alloc: Global, bytes: &[u8]) -> Result<Option<Table>, AllocError>
-    ensures some { IfOk result (λ read. IfSome read (λ table. IsUtf8 bytes.now × (parse_document bytes.now ≡ Some (table_view table)))) }
-    ensures none { IfOk result (λ read. IfNone read ((project : ProjectData) → IsProject bytes.now project → ⊥)) }
+    ensures some { IfOk result (λ read. IfSome read (λ table.
+        IsUtf8 bytes.now × (parse_document bytes.now ≡ Some (table_view table)))) }
+    ensures none { IfOk result (λ read. IfNone read (
+        (project : ProjectData) → IsProject bytes.now project → ⊥)) }
 {
     match toml::table_from_slice(alloc, bytes) {
         Ok(table) => Ok(Some(table)),
@@ -55,8 +57,10 @@ pub fn read_document(alloc: Global, bytes: &[u8]) -> Result<Option<Table>, Alloc
 /// identifier that is no keyword; and `component`, an array of two tables with exactly `name`, a name, and `files`,
 /// an array of one file name. The two names differ, and so do the two files.
 pub fn read_project(document: &Table) -> Option<Project<'_>>
-    ensures some { IfSome result (λ project. (table_view document.now ≡ project_members (project_view project)) × IsWell (project_view project)) }
-    ensures none { IfNone result ((project : ProjectData) → table_view document.now ≡ project_members project → IsWell project → ⊥) }
+    ensures some { IfSome result (λ project.
+        (table_view document.now ≡ project_members (project_view project)) × IsWell (project_view project)) }
+    ensures none { IfNone result (
+        (project : ProjectData) → table_view document.now ≡ project_members project → IsWell project → ⊥) }
 {
     let project = read_shape(document)?;
     if is_well(&project) {

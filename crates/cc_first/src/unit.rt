@@ -202,7 +202,8 @@ fn is_known(heads: &IndexSet<&str>, name: &Name<'_>) -> bool
 }
 
 fn are_known(heads: &IndexSet<&str>, names: &[Name<'_>]) -> bool
-    ensures { result ≡ list_all (λ name. reads.is_among (map (λ key. key.now) heads.now.keys) name.text.now) names.now }
+    ensures { result ≡ list_all
+        (λ name. reads.is_among (map (λ key. key.now) heads.now.keys) name.text.now) names.now }
 {
     names.iter().all(|name| is_known(heads, name))
 }

@@ -9,7 +9,5 @@
 mod call;
 mod refusal;
 mod steps;
-#[cfg(test)]
-mod tests;
 
 pub use call::run;

@@ -3,17 +3,15 @@
 // Each step that reads the shelf says this: the files stay (`keeps`), no count falls (`none_falls`), a refusal to read
 // comes only where its count rose (`caused`), and over a shelf that tells its files what the text or the refusal stands
 // for is what the definitions allow (`told`), and a read fault names a file that they read (`names`).
-ghost use Rattle.std.specs.Prelude.{◌≡◌, ◌≢◌, ◌↔◌, ◌≤◌, ◌<◌, ℕ, List, All, Err, Some, IfErr, IfNone, IfOk, IfSome, length, map, string_bytes, true};
-ghost use Rattle.std.specs.List.{flat_map};
+ghost use Rattle.std.specs.Prelude.{◌≡◌, ◌≢◌, ◌↔◌, ◌≤◌, ◌<◌, ℕ, List, Err, Some, IfErr, IfNone, IfOk, IfSome, length, map, string_bytes};
 ghost use Rattle.std.specs.FinMap.{get};
 ghost use Rattle.cc_top.specs.Answer.{AfterRead, IsAnswer, OfFiles, OfProgram, OfProject};
 ghost use Rattle.cc_top.specs.Reads.{Reads};
-ghost use Rattle.cc_first.specs.Names.{is_free_name};
 ghost use Rattle.cc_first.specs.Project.{IsProject, IsWell, Project as ProjectData};
 ghost use Rattle.cc_top.specs.Counts.{Caused, NoneFalls, counts_of};
 ghost use Rattle.cc_top.specs.Refusal.{FaultNames, IsOfForm, RefusesForm, RefusesRead, status_of};
 ghost use Rattle.cc_top.specs.Tells.{IsFileName, IsNamed, Tells};
-ghost use Rattle.cc_first.specs.Unit.{IsUnit, Part as PartData, names_of_part, program_of};
+ghost use Rattle.cc_first.specs.Unit.{HaveFreeNames, IsUnit, Part as PartData, program_of};
 ghost use Rattle.cc_first.specs.Views.{parts_view, project_view};
 ghost use Rattle.cc_first.specs.Limit.{limit};
 ghost use Rattle.cc_top.specs.Words.{list_words};
@@ -118,8 +116,8 @@ fn units_listing(
     second: &[Part<'_>],
 ) -> Result<Vec<u8>, Refusal>
     requires well { IsWell (project_view project.now) }
-    requires first { All (λ name. is_free_name name.text ≡ true) (flat_map names_of_part (parts_view first.now)) }
-    requires second { All (λ name. is_free_name name.text ≡ true) (flat_map names_of_part (parts_view second.now)) }
+    requires first { HaveFreeNames (parts_view first.now) }
+    requires second { HaveFreeNames (parts_view second.now) }
     ensures told { Tells (OfProgram name.now (project_view project.now)
         (program_of (parts_view first.now) (parts_view second.now))) result }
     ensures form { IfErr result IsOfForm }
