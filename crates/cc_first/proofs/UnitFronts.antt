@@ -55,9 +55,14 @@ void_text kind.Void e = refl
 void_text (kind.Name text) e = absurd cc
 void_text (kind.Mark m) e = absurd cc
 
+-- `void` is a keyword
+void_not_free : is_free_name (codes "void") ≡ false
+unfolding keywords
+void_not_free = refl
+
 text_void : (found : Kind) → IsKind found → codes "void" ≡ text_of found → is_void_kind found ≡ true
 text_void kind.Void k e = refl
-text_void (kind.Name text) k e = let f : is_free_name (codes "void") ≡ true = subst (λ (w : List ℕ). is_free_name w ≡ true) (sym e) k in let g : false ≡ true = f in absurd cc
+text_void (kind.Name text) k e = let f : is_free_name (codes "void") ≡ true = subst (λ (w : List ℕ). is_free_name w ≡ true) (sym e) k in let g : is_free_name (codes "void") ≡ false = void_not_free in absurd cc
 text_void (kind.Mark m) k e = absurd cc
 
 pub mark_text : (mark : Mark) (found : Kind) → is_mark_kind mark found ≡ true → mark_byte mark ∷ [] ≡ text_of found
@@ -94,11 +99,6 @@ name_sound token (kind.Name text) at name e s k h =
     let p : name.spot ≡ at = ap (λ (x : Name). x.spot) (sym n) in
     ((t ∙ ap text_of e, p ∙ s), subst (λ (w : List ℕ). is_free_name w ≡ true) (sym t) k)
 name_sound token (kind.Mark m) at name e s k h = absurd cc
-
--- `void` is a keyword
-void_not_free : is_free_name (codes "void") ≡ false
-unfolding keywords
-void_not_free = refl
 
 name_complete : (found : Kind) (at : Spot) (name : Name) → IsFree name → name.text ≡ text_of found → name.spot ≡ at → name_in found at ≡ Some name
 name_complete kind.Void at name f e s = let g : is_free_name (codes "void") ≡ true = subst (λ (w : List ℕ). is_free_name w ≡ true) e f in let h : is_free_name (codes "void") ≡ false = void_not_free in absurd cc

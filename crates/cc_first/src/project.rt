@@ -120,7 +120,9 @@ fn is_name(text: &[u8]) -> bool
     ensures { result ≡ is_name text.now }
 {
     match text.first() {
-        Some(first) => { first.is_ascii_alphabetic() && text.len() <= NAME_LIMIT && are_in_name(text) }
+        Some(first) => {
+            first.is_ascii_alphabetic() && text.len() <= NAME_LIMIT && are_in_name(text)
+        }
         None => false,
     }
 }
@@ -132,7 +134,10 @@ fn is_file_name(text: &[u8]) -> bool
 {
     match text.first() {
         Some(first) => {
-            *first != b'/' && text.len() <= FILE_NAME_LIMIT && are_in_file_name(text) && !has_part_up(text)
+            *first != b'/'
+                && text.len() <= FILE_NAME_LIMIT
+                && are_in_file_name(text)
+                && !has_part_up(text)
         }
         None => false,
     }

@@ -47,9 +47,7 @@ fn answers(
     let mut out_sink = SureSink::new(alloc);
     let mut err_sink = SureSink::new(alloc);
     let ended = run(alloc, &given, shelf, &mut out_sink, &mut err_sink);
-    Ok(ended == status
-        && out_sink.held() == out.as_bytes()
-        && err_sink.held() == err.as_bytes())
+    Ok(ended == status && out_sink.held() == out.as_bytes() && err_sink.held() == err.as_bytes())
 }
 
 // Whether this is the answer of `list` for a project of these files.
@@ -133,7 +131,10 @@ fn refused_projects(rt: HostRuntime) -> Result<(), Fail> {
         ("", A, B),
     ];
     for (project, a, b) in cases {
-        assert!(rt; lists(rt.alloc(), project, a, b, "", UNBUILT, 3)?, "{project}{a}{b}");
+        assert!(rt;
+            lists(rt.alloc(), project, a, b, "", UNBUILT, 3)?,
+            "{project}{a}{b}"
+        );
     }
     Ok(())
 }
@@ -150,7 +151,10 @@ fn words(rt: HostRuntime) -> Result<(), Fail> {
         &["draw", "p.toml"],
     ];
     for words in cases {
-        assert!(rt; answers(rt.alloc(), words, &mut shelf, "", USAGE, 2)?, "{words:?}");
+        assert!(rt;
+            answers(rt.alloc(), words, &mut shelf, "", USAGE, 2)?,
+            "{words:?}"
+        );
     }
     Ok(())
 }
@@ -171,7 +175,10 @@ fn files(rt: HostRuntime) -> Result<(), Fail> {
         ("blank.toml", "blank.toml: form not built yet\n"),
     ];
     for (project, err) in cases {
-        assert!(rt; answers(rt.alloc(), &["list", project], &mut shelf, "", err, 3)?, "{project}");
+        assert!(rt;
+            answers(rt.alloc(), &["list", project], &mut shelf, "", err, 3)?,
+            "{project}"
+        );
     }
     Ok(())
 }
