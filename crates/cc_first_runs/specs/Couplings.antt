@@ -15,7 +15,8 @@ pub record IsCoupling (program : Program) (entry : ℕ) (row : Row) : Type 0 whe
   pub apart : site.caller.file ≢ site.callee.file
   pub reachable : IsReachable program entry (At row.f row.i)
 
--- a row stands before another: its call does
+-- a row stands before another: its call does. The called function needs no comparison: the programs that are listed have
+-- no name with two bodies, so that a call is of one function, and two rows of one call are the same row
 abbrev pub IsBefore : Row → Row → Type 0
 IsBefore a b = (a.f < b.f) ⊎ ((a.f ≡ b.f) × (a.i < b.i))
 

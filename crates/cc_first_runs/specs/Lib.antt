@@ -6,5 +6,5 @@ pub mod Parts
 pub mod Points
 pub mod Program
 pub mod Runs
-pub mod Walks
 pub mod Stacks
+pub mod Walks

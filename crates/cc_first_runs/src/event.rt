@@ -31,6 +31,7 @@ pub enum End {
     Done,
     /// A function was to be entered, and no turn was left.
     TurnsOut,
-    /// A function was to be entered that has no body (C17 6.9p5 asks for one). No run of a whole program ends so whose test calls functions of it.
+    /// A function was to be entered that has no body (C17 6.9p5 asks for one). No run of a whole program ends so whose
+    /// test calls functions of it.
     NoBody,
 }

@@ -9,10 +9,14 @@ use Rattle.cc_io.specs.Sink.{GrowsByPrefix}
 use Rattle.cc_io.specs.declared.sink.SinkFault.{SinkFault}
 use Rattle.cc_io.specs.declared.sink.SinkFault.TheVariants.{Failed, Memory}
 use Rattle.cc_top.specs.Answer as Answer
-use Rattle.cc_top.specs.Answer.{Reply, IsAnswer, Reads}
+use Rattle.cc_top.specs.Counts.{Counts}
+use Rattle.cc_top.specs.Run.{Answers, SomeEnd}
+use Rattle.cc_top.specs.Answer.{Reply, IsAnswer}
+use Rattle.cc_top.specs.Reads.{Reads}
 use Rattle.cc_top.specs.Refusal.{line_of, status_of, memory_line, usage_line, FaultNames, IsReadFault}
-use Rattle.cc_top.specs.Told.{reply_of, EndTells, EndReads}
-use Rattle.cc_top.specs.Ends.{End, done, refused, write_fault, memory, write_line, Told, Reported, Held, Counts, EndCaused, Ends}
+use Rattle.cc_top.specs.Tells.{reply_of, EndTells, EndReads}
+use Rattle.cc_top.specs.Ends.{End, done, refused, write_fault, memory, write_line, Held, EndCaused}
+use Rattle.cc_top.specs.Told.{Told, Reported}
 use Rattle.cc_top.specs.declared.refusal.Refusal.{Refusal}
 use Rattle.cc_top.specs.declared.refusal.Refusal.TheVariants as why
 
@@ -27,14 +31,9 @@ prefix_of_put old new line (Ok x) ok failed kept = (length line, ok ∙ ap (appe
 prefix_of_put old new line (Err Failed) ok failed kept = failed refl
 prefix_of_put old new line (Err Memory) ok failed kept = (0, kept refl ∙ append_known-nil old)
 
--- the answer that a status below 4 comes with
-abbrev pub Answered : (words : List (List ℕ)) (files : Files) (out out' err err' : Option (List ℕ)) (result : ℕ) → Type 0
-Answered words files out out' err err' result =
-    result < 4 → (reply : Reply) × IsAnswer words files reply × (result ≡ reply.status) × (out' ≡ append_known out reply.out) × (err' ≡ append_known err reply.err)
-
 pub answered_report : (o : Option Files) (words : List (List ℕ)) (refusal : Refusal) (out err err' : Option (List ℕ)) (faults faults' result : ℕ)
     → IfSome o (λ files. status_of refusal < 4 → IsAnswer words files (reply_of refusal)) → Reported (line_of refusal) (status_of refusal) err err' faults faults' result
-    → IfSome o (λ files. Answered words files out out err err' result)
+    → IfSome o (λ files. Answers words files out out err err' result)
 answered_report None words refusal out err err' faults faults' result told reported = tt
 answered_report (Some files) words refusal out err err' faults faults' result told reported = λ below.
     elim reported [
@@ -49,17 +48,13 @@ answered_report (Some files) words refusal out err err' faults faults' result to
     ]
 
 pub answered_text : (o : Option Files) (words : List (List ℕ)) (text : List ℕ) (out out' err : Option (List ℕ))
-    → IfSome o (λ files. IsAnswer words files (Answer.done text)) → out' ≡ append_known out text → IfSome o (λ files. Answered words files out out' err err 0)
+    → IfSome o (λ files. IsAnswer words files (Answer.done text)) → out' ≡ append_known out text → IfSome o (λ files. Answers words files out out' err err 0)
 answered_text None words text out out' err told put = tt
 answered_text (Some files) words text out out' err told put = λ below. (Answer.done text, told, refl, put, append_known-nil err)
 
 nothing_told : (o : Option Files) (words : List (List ℕ)) → IfSome o (λ files. EndTells (IsAnswer words files) memory)
 nothing_told None words = tt
 nothing_told (Some files) words = tt
-
-abbrev pub SomeEnd : (o : Option Files) (words : List (List ℕ)) (out out' err err' : Held) (shelf shelf' : Counts) (result : ℕ) → Type 0
-SomeEnd o words out out' err err' shelf shelf' result =
-    (end : End) × Ends out out' err err' shelf shelf' result end × IfSome o (λ files. EndTells (IsAnswer words files) end) × IfSome o (λ files. EndReads (Reads words files) end)
 
 pub end_of_report : (o : Option Files) (words : List (List ℕ)) (refusal : Refusal) (out err err' : Held) (shelf shelf' : Counts) (result : ℕ)
     → IfSome o (λ files. status_of refusal < 4 → IsAnswer words files (reply_of refusal)) → IfSome o (λ files. FaultNames (Reads words files) refusal) → EndCaused shelf shelf' (refused refusal)

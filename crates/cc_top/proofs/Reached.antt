@@ -2,12 +2,16 @@
 use Rattle.std.proofs.Common.{◌≡◌, ◌≢◌, ◌⊎◌, ◌<◌, ◌≤◌, ℕ, List, length, Option, Some, None, IfSome, inl, inr, ⊎_elim, refl, sym, ap, ◌∙◌, arith, subst}
 use Rattle.std.specs.FinMap.{get}
 use Rattle.std.specs.Io.KnownBytes.{append_known}
-use Rattle.cc_top.proofs.EndFacts.{Answered, append_known-nil}
+use Rattle.cc_top.proofs.EndFacts.{append_known-nil}
+use Rattle.cc_top.specs.Run.{Answers, RefusesReached}
 use Rattle.std.proofs.lemmas.Option.{same_Some}
 use Rattle.cc_io.specs.Shelf.{Files}
-use Rattle.cc_top.specs.Words.{limit, list_words}
-use Rattle.cc_top.specs.Project.{Component, Project, IsProject, project_members}
-use Rattle.cc_top.specs.Answer.{Reply, refused, AfterRead, OfFiles, OfProject, IsAnswer, Reads, Holds, Fails, Lacks, Passes}
+use Rattle.cc_first.specs.Limit.{limit}
+use Rattle.cc_top.specs.Words.{list_words}
+use Rattle.cc_first.specs.Project.{Project, IsProject}
+use Rattle.cc_first.proofs.OneProject.{same_project}
+use Rattle.cc_top.specs.Answer.{Reply, refused, AfterRead, OfFiles, OfProject, IsAnswer, Holds}
+use Rattle.cc_top.specs.Reads.{Reads, Fails, Lacks, Passes}
 
 at_read : (files : Files) (name line : List ℕ) (next : List ℕ → Reply → Type 0) (reply : Reply) → Fails files name line → AfterRead files name next reply → reply ≡ refused line 3
 at_read files name line next reply (Lacks is) after = rw is at after
@@ -17,25 +21,6 @@ at_read files name line next reply (Passes {bytes = bytes} is long) after =
 past_read : (files : Files) (name bytes : List ℕ) (next : List ℕ → Reply → Type 0) (reply : Reply) → Holds files name bytes → AfterRead files name next reply → next bytes reply
 past_read files name bytes next reply held after =
     ⊎_elim (λ p. absurd (omega (arith, p.0, held.1))) (λ p. p.1) (rw held.0 at after)
-
-same_component : (c d : Component) → c.name ≡ d.name → c.file ≡ d.file → c ≡ d
-same_component c d names files =
-    let with_name : List ℕ → Component = λ x. record { name = x; file = c.file } in
-    let with_file : List ℕ → Component = λ x. record { name = d.name; file = x } in
-    ap with_name names ∙ ap with_file files
-
--- bytes say at most one project
-pub same_project : (p q : Project) → project_members p ≡ project_members q → p ≡ q
-same_project p q e =
-    let entries : p.entry ≡ q.entry = cc in
-    let names : p.first.name ≡ q.first.name = cc in
-    let files : p.first.file ≡ q.first.file = cc in
-    let names' : p.second.name ≡ q.second.name = cc in
-    let files' : p.second.file ≡ q.second.file = cc in
-    let with_entry : List ℕ → Project = λ x. record { entry = x; first = p.first; second = p.second } in
-    let with_first : Component → Project = λ x. record { entry = q.entry; first = x; second = p.second } in
-    let with_second : Component → Project = λ x. record { entry = q.entry; first = q.first; second = x } in
-    ap with_entry entries ∙ ap with_first (same_component p.first q.first names files) ∙ ap with_second (same_component p.second q.second names' files')
 
 abbrev Behind : Files → List ℕ → Project → Reply → Type 0
 Behind files name project = AfterRead files project.first.file (λ first. AfterRead files project.second.file (λ second. OfFiles name project first second))
@@ -67,8 +52,8 @@ reached_fails words files name line reply reads fails answer =
     answer
 
 -- so a status below 4 is 3, with that line on err and nothing on out
-pub reached_answer : (o : Option Files) (words : List (List ℕ)) (out out' err err' : Option (List ℕ)) (result : ℕ) → IfSome o (λ files. Answered words files out out' err err' result)
-    → IfSome o (λ files. (name line : List ℕ) → Reads words files name → Fails files name line → result < 4 → (result ≡ 3) × (out' ≡ out) × (err' ≡ append_known err line))
+pub reached_answer : (o : Option Files) (words : List (List ℕ)) (out out' err err' : Option (List ℕ)) (result : ℕ) → IfSome o (λ files. Answers words files out out' err err' result)
+    → IfSome o (λ files. RefusesReached words files out out' err err' result)
 reached_answer None words out out' err err' result answered = tt
 reached_answer (Some files) words out out' err err' result answered = λ name line reads fails below.
     let of = answered below in
@@ -77,6 +62,6 @@ reached_answer (Some files) words out out' err err' result answered = λ name li
 
 -- a status from 4 up is none below 4
 pub reached_fault : (o : Option Files) (words : List (List ℕ)) (out out' err err' : Option (List ℕ)) (result : ℕ) → 4 ≤ result
-    → IfSome o (λ files. (name line : List ℕ) → Reads words files name → Fails files name line → result < 4 → (result ≡ 3) × (out' ≡ out) × (err' ≡ append_known err line))
+    → IfSome o (λ files. RefusesReached words files out out' err err' result)
 reached_fault None words out out' err err' result high = tt
 reached_fault (Some files) words out out' err err' result high = λ name line reads fails below. absurd (omega (arith, below, high))

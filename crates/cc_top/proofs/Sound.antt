@@ -9,12 +9,13 @@ use Rattle.cc_first_runs.specs.Couplings.{Row}
 use Rattle.cc_first_runs.specs.Program.{Program, IsSite}
 use Rattle.cc_top.specs.Answer.{Reply, refused, done, AfterRead, AfterUnit, OfProgram, OfFiles, OfProject, IsAnswer, Holds}
 use Rattle.cc_top.specs.Refusal.{missing_line, long_line}
-use Rattle.cc_top.specs.Listing.{AreLines, IsListing, header, line}
-use Rattle.cc_top.specs.Project.{Project, IsProject}
+use Rattle.cc_first.specs.Listing.{AreLines, IsListing, header, line}
+use Rattle.cc_first.specs.Project.{Project, IsProject}
 use Rattle.cc_top.specs.Sound.{CoversRuns, HasLine, Listed}
-use Rattle.cc_top.specs.Unit.{Part, IsUnit, program_of}
-use Rattle.cc_top.specs.Words.{limit, list_words}
-use Rattle.cc_top.proofs.EndFacts.{Answered}
+use Rattle.cc_first.specs.Unit.{Part, IsUnit, program_of}
+use Rattle.cc_first.specs.Limit.{limit}
+use Rattle.cc_top.specs.Words.{list_words}
+use Rattle.cc_top.specs.Run.{Answers, Covers}
 
 -- a reply of status 0 is no refusal
 not_refused : {A : Type 0} (reply : Reply) (line : List ℕ) (status : ℕ) → 0 < status → reply.status ≡ 0 → reply ≡ refused line status → A
@@ -138,13 +139,8 @@ covers law project program entry text listing = λ calls are turns row exercised
     let its = line_in project program 1 listing.0 listing.2 listing.3 row has in
     record { site = its.site; earlier = its.earlier; before = its.before; are_lines = its.are_lines; after = its.after; stands = listing.4 ∙ ap (λ l. header ++ l) its.stands }
 
--- what an answer of status 0 covers
-abbrev pub Covers : (words : List (List ℕ)) (files : Files) (out out' : Option (List ℕ)) → Type 0
-Covers words files out out' =
-    (text : List ℕ) × (out' ≡ append_known out text) × (listed : Listed words files text) × CoversRuns listed.project (program_of listed.parts listed.others) listed.entry text
-
 pub sound_answer : ListedLeavesNoneOut → (o : Option Files) (words : List (List ℕ)) (out out' err err' : Option (List ℕ)) (result : ℕ)
-    → IfSome o (λ files. Answered words files out out' err err' result) → IfSome o (λ files. result ≡ 0 → Covers words files out out')
+    → IfSome o (λ files. Answers words files out out' err err' result) → IfSome o (λ files. Covers words files out out' result)
 sound_answer law None words out out' err err' result answered = tt
 sound_answer law (Some files) words out out' err err' result answered = λ well.
     let of = answered (omega (arith, well)) in
@@ -153,6 +149,6 @@ sound_answer law (Some files) words out out' err err' result answered = λ well.
     (table.0, of.3 ∙ ap (append_known out) table.1, listed, covers law listed.project (program_of listed.parts listed.others) listed.entry table.0 listed.listing)
 
 -- a status that is not 0 covers nothing
-pub sound_refusal : (o : Option Files) (words : List (List ℕ)) (out out' : Option (List ℕ)) (result : ℕ) → 0 < result → IfSome o (λ files. result ≡ 0 → Covers words files out out')
+pub sound_refusal : (o : Option Files) (words : List (List ℕ)) (out out' : Option (List ℕ)) (result : ℕ) → 0 < result → IfSome o (λ files. Covers words files out out' result)
 sound_refusal None words out out' result high = tt
 sound_refusal (Some files) words out out' result high = λ well. absurd (omega (arith, well, high))

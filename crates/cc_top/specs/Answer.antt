@@ -3,10 +3,12 @@ use Rattle.std.specs.Prelude.{◌≡◌, ◌≢◌, ◌⊎◌, ◌<◌, ◌≤�
 use Rattle.std.specs.FinMap.{get}
 use Rattle.cc_io.specs.Shelf.{Files}
 use Rattle.cc_first_runs.specs.Program.{Program}
-use Rattle.cc_top.specs.Words.{limit, list_words}
-use Rattle.cc_top.specs.Project.{Project, IsProject}
-use Rattle.cc_top.specs.Unit.{Part, IsUnit, program_of}
-use Rattle.cc_top.specs.Listing.{IsWhole, IsEntry, IsListing}
+use Rattle.cc_first.specs.Limit.{limit}
+use Rattle.cc_top.specs.Words.{list_words}
+use Rattle.cc_first.specs.Project.{Project, IsProject}
+use Rattle.cc_first.specs.Unit.{Part, IsUnit, program_of}
+use Rattle.cc_first.specs.Linked.{IsLinked}
+use Rattle.cc_first.specs.Listing.{IsListing}
 use Rattle.cc_top.specs.Refusal.{usage_line, missing_line, long_line, unbuilt_line}
 
 -- what is added to out and to err, and the status
@@ -36,10 +38,6 @@ AfterUnit file bytes next reply =
     (((parts : List Part) → IsUnit bytes parts → ⊥) × (reply ≡ unbuilt file))
     ⊎ ((parts : List Part) × IsUnit bytes parts × next parts reply)
 
--- the program has the entry and is whole
-abbrev pub IsLinked : Program → List ℕ → ℕ → Type 0
-IsLinked program entry e = IsWhole program × IsEntry program entry e
-
 -- the program of both files is refused, or its table is the answer
 abbrev pub OfProgram : List ℕ → Project → Program → Reply → Type 0
 OfProgram name project program reply =
@@ -67,16 +65,3 @@ IsAnswer words files reply =
 -- the files hold bytes under the name, and not too many
 abbrev pub Holds : Files → List ℕ → List ℕ → Type 0
 Holds files name bytes = (get files name ≡ Some bytes) × (length bytes ≤ limit)
-
--- the names that are read until the answer is known: the project, its first file, and where this can be had its second
-abbrev pub Reads : List (List ℕ) → Files → List ℕ → Type 0
-Reads words files name =
-    (project_name : List ℕ) × (words ≡ list_words project_name)
-    × ((name ≡ project_name)
-    ⊎ ((bytes : List ℕ) × (project : Project) × Holds files project_name bytes × IsProject bytes project
-    × ((name ≡ project.first.file) ⊎ ((first : List ℕ) × Holds files project.first.file first × (name ≡ project.second.file)))))
-
--- the file is missing or too long, and this is the line that says so
-pub data Fails (files : Files) (name : List ℕ) : List ℕ → Type 0 where
-  Lacks : get files name ≡ None → Fails files name (missing_line name)
-  Passes : {bytes : List ℕ} → get files name ≡ Some bytes → limit < length bytes → Fails files name (long_line name)

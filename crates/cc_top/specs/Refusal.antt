@@ -2,7 +2,7 @@
 use Rattle.std.specs.Prelude.{◌≡◌, ◌<◌, ◌++◌, ℕ, List, length, codes, Some, None}
 use Rattle.std.specs.FinMap.{get}
 use Rattle.cc_io.specs.Shelf.{Files}
-use Rattle.cc_top.specs.Words.{limit}
+use Rattle.cc_first.specs.Limit.{limit}
 use Rattle.cc_top.specs.declared.refusal.Refusal.{Refusal}
 use Rattle.cc_top.specs.declared.refusal.Refusal.TheVariants.{Usage, ReadFault, Missing, TooLong, Unbuilt, Memory}
 

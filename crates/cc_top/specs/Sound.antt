@@ -6,10 +6,11 @@ use Rattle.cc_first_runs.specs.Laws.{AreCallsOf}
 use Rattle.cc_first_runs.specs.Runs.{run}
 use Rattle.cc_first_runs.specs.Couplings.{Row}
 use Rattle.cc_first_runs.specs.Program.{Program, IsSite}
-use Rattle.cc_top.specs.Answer.{Holds, IsLinked}
-use Rattle.cc_top.specs.Listing.{AreLines, IsListing, header, line}
-use Rattle.cc_top.specs.Project.{Project, IsProject}
-use Rattle.cc_top.specs.Unit.{Part, IsUnit, program_of}
+use Rattle.cc_top.specs.Answer.{Holds}
+use Rattle.cc_first.specs.Linked.{IsLinked}
+use Rattle.cc_first.specs.Listing.{AreLines, IsListing, header, line}
+use Rattle.cc_first.specs.Project.{Project, IsProject}
+use Rattle.cc_first.specs.Unit.{Part, IsUnit, program_of}
 use Rattle.cc_top.specs.Words.{list_words}
 
 -- a project that the words name, with its files and the program that they make

@@ -1,10 +1,6 @@
 -- The words of a command line.
 use Rattle.std.specs.Prelude.{◌∷◌, ℕ, List, [], codes}
 
--- the most bytes that a file may have
-abbrev pub limit : ℕ
-limit = 1048576
-
 -- the words that list a project
 abbrev pub list_words : List ℕ → List (List ℕ)
 list_words project = codes "list" ∷ project ∷ []

@@ -1,25 +1,24 @@
 // The top call.
-ghost use Rattle.std.specs.Prelude.{◌≡◌, ◌≢◌, ◌⊎◌, ◌<◌, ℕ, List, Option, IfSome, map, string_bytes};
-ghost use Rattle.std.specs.Io.KnownBytes.{append_known};
+ghost use Rattle.std.specs.Prelude.{◌≡◌, ◌≢◌, ◌⊎◌, ◌<◌, ℕ, List, IfSome, map, string_bytes};
 ghost use Rattle.cc_io.specs.Count.{Rose};
 ghost use Rattle.cc_io.specs.Sink.{GrowsByPrefix};
-ghost use Rattle.cc_top.specs.Answer.{Fails, IsAnswer, Reads, Reply};
-ghost use Rattle.cc_top.specs.Ends.{End, Ends, Reported, Told};
+ghost use Rattle.cc_top.specs.Counts.{counts_of};
+ghost use Rattle.cc_top.specs.Ends.{held_of};
 ghost use Rattle.cc_top.specs.Refusal.{line_of, memory_line, status_of, usage_line};
-ghost use Rattle.cc_top.specs.Sound.{CoversRuns, Listed};
-ghost use Rattle.cc_top.specs.Told.{EndReads, EndTells};
-ghost use Rattle.cc_top.specs.Unit.{program_of};
+ghost use Rattle.cc_top.specs.Run.{Answers, Covers, RefusesReached, SomeEnd};
+ghost use Rattle.cc_top.specs.Told.{Reported, Told};
 ghost use Rattle.cc_top.specs.Words.{list_words};
 
 use crate::refusal::Refusal;
 use crate::steps::text_for;
-use cc_io::{Shelf, Sink, SinkFault};
 use cc_first_runs::laws::listed_leaves_none_out;
+use cc_io::{Shelf, Sink, SinkFault};
 use std::alloc::Global;
 
 // Puts a line, and answers the status that this gives.
 fn tell<E: Sink>(err: &mut E, line: &[u8], status: u8) -> u8
-    ensures { Told line.now status (E.held err.old) (E.held err.new) (E.faults err.old) (E.faults err.new) result }
+    ensures { Told line.now status (E.held err.old) (E.held err.new)
+        (E.faults err.old) (E.faults err.new) result }
 {
     match err.put(line) {
         Ok(()) => status,
@@ -36,14 +35,16 @@ fn tell_last<E: Sink>(err: &mut E, line: &[u8])
 }
 
 fn tell_memory<E: Sink>(err: &mut E) -> u8
-    ensures { Told memory_line 5 (E.held err.old) (E.held err.new) (E.faults err.old) (E.faults err.new) result }
+    ensures { Told memory_line 5 (E.held err.old) (E.held err.new)
+        (E.faults err.old) (E.faults err.new) result }
 {
     tell(err, b"out of memory\n", 5)
 }
 
 // Puts a refusal's line, or that memory is wanting.
 fn report<E: Sink>(alloc: Global, err: &mut E, refusal: &Refusal) -> u8
-    ensures { Reported (line_of refusal.now) (status_of refusal.now) (E.held err.old) (E.held err.new) (E.faults err.old) (E.faults err.new) result }
+    ensures { Reported (line_of refusal.now) (status_of refusal.now) (E.held err.old) (E.held err.new)
+        (E.faults err.old) (E.faults err.new) result }
 {
     match refusal.line(alloc) {
         Ok(line) => tell(err, line.as_bytes(), refusal.status()),
@@ -64,36 +65,31 @@ pub fn run<S: Shelf, K: Sink, E: Sink>(
     err: &mut E,
 ) -> u8
     // Over a shelf that tells its files, a status below 4 is the answer's, with the answer's bytes, whatever counts rose.
-    ensures told { IfSome (S.files shelf.old) (λ files. result < 4 → (reply : Reply)
-        × IsAnswer (map string_bytes words.now) files reply × (result ≡ reply.status)
-        × (K.held out.new ≡ append_known (K.held out.old) reply.out)
-        × (E.held err.new ≡ append_known (E.held err.old) reply.err)) }
+    ensures told { IfSome (S.files shelf.old) (λ files. Answers (map string_bytes words.now) files
+        (K.held out.old) (K.held out.new) (E.held err.old) (E.held err.new) result) }
 
     // A file that the reading reaches and that is missing or too long is what is refused, where the status is below 4.
-    ensures reached { IfSome (S.files shelf.old) (λ files. (name line : List ℕ) → Reads (map string_bytes words.now) files name
-        → Fails files name line → result < 4 → (result ≡ 3) × (K.held out.new ≡ K.held out.old)
-        × (E.held err.new ≡ append_known (E.held err.old) line)) }
+    ensures reached { IfSome (S.files shelf.old) (λ files. RefusesReached (map string_bytes words.now) files
+        (K.held out.old) (K.held out.new) (E.held err.old) (E.held err.new) result) }
 
     // Soundness: where the status is 0, an out that tells its bytes has the table of a program that the files make, and each
     // call coupling that any run of this program exercises, whatever calls of the entry and turns, has its line in it.
-    ensures sound { IfSome (S.files shelf.old) (λ files. result ≡ 0 → (text : List ℕ)
-        × (K.held out.new ≡ append_known (K.held out.old) text) × (listed : Listed (map string_bytes words.now) files text)
-        × CoversRuns listed.project (program_of listed.parts listed.others) listed.entry text) }
+    ensures sound { IfSome (S.files shelf.old) (λ files. Covers (map string_bytes words.now) files
+        (K.held out.old) (K.held out.new) result) }
 
     // Some end says what stands on out and err, and which count rose. Over a told shelf its text or refusal is the answer's,
     // and a read fault names a file that is read.
-    ensures ends { (end : End)
-        × Ends (record { bytes = K.held out.old; faults = K.faults out.old }) (record { bytes = K.held out.new; faults = K.faults out.new })
-        (record { bytes = E.held err.old; faults = E.faults err.old }) (record { bytes = E.held err.new; faults = E.faults err.new })
-        (record { faults = S.faults shelf.old; misses = S.misses shelf.old; longs = S.longs shelf.old })
-        (record { faults = S.faults shelf.new; misses = S.misses shelf.new; longs = S.longs shelf.new }) result end
-        × IfSome (S.files shelf.old) (λ files. EndTells (IsAnswer (map string_bytes words.now) files) end)
-        × IfSome (S.files shelf.old) (λ files. EndReads (Reads (map string_bytes words.now) files) end) }
+    ensures ends { SomeEnd (S.files shelf.old) (map string_bytes words.now)
+        (held_of (K.held out.old) (K.faults out.old)) (held_of (K.held out.new) (K.faults out.new))
+        (held_of (E.held err.old) (E.faults err.old)) (held_of (E.held err.new) (E.faults err.new))
+        (counts_of (S.faults shelf.old) (S.misses shelf.old) (S.longs shelf.old))
+        (counts_of (S.faults shelf.new) (S.misses shelf.new) (S.longs shelf.new)) result }
 
     // The status is at most 5, and 4 only where a count of faults rose.
     ensures most { result < 6 }
     ensures fault { result ≡ 4 →
-        (Rose (S.faults shelf.old) (S.faults shelf.new) ⊎ Rose (K.faults out.old) (K.faults out.new)) ⊎ Rose (E.faults err.old) (E.faults err.new) }
+        (Rose (S.faults shelf.old) (S.faults shelf.new) ⊎ Rose (K.faults out.old) (K.faults out.new))
+        ⊎ Rose (E.faults err.old) (E.faults err.new) }
 
     // The shelf's files stay as they are.
     ensures keeps { S.files shelf.new ≡ S.files shelf.old }
@@ -101,7 +97,8 @@ pub fn run<S: Shelf, K: Sink, E: Sink>(
     // Words that are no command read nothing, whatever the shelf is.
     ensures usage { ((project : List ℕ) → map string_bytes words.now ≢ list_words project) →
         (shelf.new ≡ shelf.old) × (out.new ≡ out.old)
-        × Reported usage_line 2 (E.held err.old) (E.held err.new) (E.faults err.old) (E.faults err.new) result }
+        × Reported usage_line 2 (E.held err.old) (E.held err.new)
+        (E.faults err.old) (E.faults err.new) result }
     ensures not_usage { result ≡ 2 → (project : List ℕ) → map string_bytes words.now ≢ list_words project }
 {
     // The law that `sound` rests on.

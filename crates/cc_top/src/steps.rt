@@ -1,35 +1,26 @@
 // The steps from the words to the text, in their order.
 //
-// Each step that reads the shelf has the same clauses: the files stay, no count falls, a refusal to read comes only
-// where its count rose (`fault`, `missing`, `long`), and over a shelf that tells its files what the text or the refusal
-// stands for is what the definitions allow (`told`), and a read fault names a file that they read (`names`).
-ghost use Rattle.std.specs.Prelude.{◌≡◌, ◌≢◌, ◌↔◌, ◌≤◌, ◌<◌, ℕ, List, All, Err, Some, IfSome, IfNone, IfOk, IfErr, length, map, string_bytes, true};
-ghost use Rattle.std.specs.List.{flat_map};
+// Each step that reads the shelf says this: the files stay (`keeps`), no count falls (`none_falls`), a refusal to read
+// comes only where its count rose (`caused`), and over a shelf that tells its files what the text or the refusal stands
+// for is what the definitions allow (`told`), and a read fault names a file that they read (`names`).
+ghost use Rattle.std.specs.Prelude.{◌≡◌, ◌≢◌, ◌↔◌, ◌≤◌, ◌<◌, ℕ, List, Err, Some, IfErr, IfNone, IfOk, IfSome, length, map, string_bytes};
 ghost use Rattle.std.specs.FinMap.{get};
-ghost use Rattle.std.specs.Str.{IsUtf8};
-ghost use Rattle.toml.specs.Parse.{parse_document};
-ghost use Rattle.toml.specs.View.{table_view};
-ghost use Rattle.cc_io.specs.Count.{Rose};
-ghost use Rattle.cc_top.specs.Answer.{AfterRead, IsAnswer, OfFiles, OfProgram, OfProject, Reads};
-ghost use Rattle.cc_top.specs.Names.{is_free_name};
-ghost use Rattle.cc_top.specs.Project.{IsProject, IsWell, Project as ProjectData};
-ghost use Rattle.cc_top.specs.Refusal.{FaultNames, IsMissing, IsOfForm, IsReadFault, IsTooLong, RefusesForm, RefusesRead, status_of};
-ghost use Rattle.cc_top.specs.Told.{IsFileName, IsNamed, Tells};
-ghost use Rattle.cc_top.specs.Unit.{IsUnit, Part as PartData, names_of_part, program_of};
-ghost use Rattle.cc_top.specs.Views.{parts_view, project_view};
-ghost use Rattle.cc_top.specs.Words.{limit, list_words};
+ghost use Rattle.cc_top.specs.Answer.{AfterRead, IsAnswer, OfFiles, OfProgram, OfProject};
+ghost use Rattle.cc_top.specs.Reads.{Reads};
+ghost use Rattle.cc_first.specs.Project.{IsProject, IsWell, Project as ProjectData};
+ghost use Rattle.cc_top.specs.Counts.{Caused, NoneFalls, counts_of};
+ghost use Rattle.cc_top.specs.Refusal.{FaultNames, IsOfForm, RefusesForm, RefusesRead, status_of};
+ghost use Rattle.cc_top.specs.Tells.{IsFileName, IsNamed, Tells};
+ghost use Rattle.cc_first.specs.Unit.{HaveFreeNames, IsUnit, Part as PartData, program_of};
+ghost use Rattle.cc_first.specs.Views.{parts_view, project_view};
+ghost use Rattle.cc_first.specs.Limit.{limit};
+ghost use Rattle.cc_top.specs.Words.{list_words};
 
-use crate::listing::table;
-use crate::project::{Project, read_project};
 use crate::refusal::Refusal;
-use crate::unit::{Part, read_unit};
-use cc_io::{ByteList, Found, Shelf, ShelfFault};
 use cc_base::Text;
+use cc_first::{LIMIT, Part, Project, read_document, read_project, read_unit, table};
+use cc_io::{ByteList, Found, Shelf, ShelfFault};
 use std::alloc::{AllocError, Global};
-use toml::Table;
-
-// The most bytes that a file may have.
-const LIMIT: u64 = 1_048_576;
 
 // The word after `list`, if there are these two.
 fn project_word(words: &[String]) -> Option<&str>
@@ -71,17 +62,15 @@ fn unbuilt(alloc: Global, name: &str) -> Refusal
 // A file of at most LIMIT bytes, or why it can't be had.
 fn read_file<S: Shelf>(alloc: Global, shelf: &mut S, name: &str) -> Result<ByteList, Refusal>
     ensures keeps { S.files shelf.new ≡ S.files shelf.old }
-    ensures faults_stay { S.faults shelf.old ≤ S.faults shelf.new }
-    ensures misses_stay { S.misses shelf.old ≤ S.misses shelf.new }
-    ensures longs_stay { S.longs shelf.old ≤ S.longs shelf.new }
+    ensures none_falls { NoneFalls (counts_of (S.faults shelf.old) (S.misses shelf.old) (S.longs shelf.old))
+        (counts_of (S.faults shelf.new) (S.misses shelf.new) (S.longs shelf.new)) }
 
     ensures within { IfOk result (λ bytes. length bytes ≤ limit) }
     ensures held { IfSome (S.files shelf.old) (λ files. IfOk result (λ bytes. get files name.now ≡ Some bytes)) }
     ensures refused { IfSome (S.files shelf.old) (λ files. IfErr result (RefusesRead files name.now)) }
 
-    ensures fault { IfErr result (λ refusal. IsReadFault refusal → Rose (S.faults shelf.old) (S.faults shelf.new)) }
-    ensures missing { IfErr result (λ refusal. IsMissing refusal → Rose (S.misses shelf.old) (S.misses shelf.new)) }
-    ensures long { IfErr result (λ refusal. IsTooLong refusal → Rose (S.longs shelf.old) (S.longs shelf.new)) }
+    ensures caused { IfErr result (Caused (counts_of (S.faults shelf.old) (S.misses shelf.old) (S.longs shelf.old))
+        (counts_of (S.faults shelf.new) (S.misses shelf.new) (S.longs shelf.new))) }
     ensures kind { IfErr result (λ refusal. status_of refusal ≢ 2) }
     ensures names { IfErr result (FaultNames (λ told. told ≡ name.now)) }
 {
@@ -103,29 +92,13 @@ fn read_file<S: Shelf>(alloc: Global, shelf: &mut S, name: &str) -> Result<ByteL
     }
 }
 
-// The document of the bytes: none where they are no text or no document.
-fn read_document(alloc: Global, bytes: &[u8]) -> Result<Option<Table>, AllocError>
-    ensures some { IfOk result (λ read. IfSome read (λ table. IsUtf8 bytes.now × (parse_document bytes.now ≡ Some (table_view table)))) }
-    ensures none { IfOk result (λ read. IfNone read ((project : ProjectData) → IsProject bytes.now project → ⊥)) }
-{
-    match toml::table_from_slice(alloc, bytes) {
-        Ok(table) => Ok(Some(table)),
-        Err(e) => {
-            if e.is_memory() {
-                Err(AllocError)
-            } else {
-                Ok(None)
-            }
-        }
-    }
-}
-
 // The parts of a C file, or its refusal.
 fn unit_of<'a>(alloc: Global, name: &str, bytes: &'a [u8]) -> Result<Vec<Part<'a>>, Refusal>
     requires { length bytes.now ≤ limit }
     ensures unit { IfOk result (λ parts. IsUnit bytes.now (parts_view parts.items)) }
     ensures form { IfErr result (RefusesForm name.now) }
-    ensures none { IfErr result (λ refusal. status_of refusal < 4 → (parts : List PartData) → IsUnit bytes.now parts → ⊥) }
+    ensures none { IfErr result (λ refusal. status_of refusal < 4
+        → (parts : List PartData) → IsUnit bytes.now parts → ⊥) }
 {
     match read_unit(alloc, bytes) {
         Ok(Some(parts)) => Ok(parts),
@@ -143,9 +116,10 @@ fn units_listing(
     second: &[Part<'_>],
 ) -> Result<Vec<u8>, Refusal>
     requires well { IsWell (project_view project.now) }
-    requires first { All (λ name. is_free_name name.text ≡ true) (flat_map names_of_part (parts_view first.now)) }
-    requires second { All (λ name. is_free_name name.text ≡ true) (flat_map names_of_part (parts_view second.now)) }
-    ensures told { Tells (OfProgram name.now (project_view project.now) (program_of (parts_view first.now) (parts_view second.now))) result }
+    requires first { HaveFreeNames (parts_view first.now) }
+    requires second { HaveFreeNames (parts_view second.now) }
+    ensures told { Tells (OfProgram name.now (project_view project.now)
+        (program_of (parts_view first.now) (parts_view second.now))) result }
     ensures form { IfErr result IsOfForm }
 {
     match table(alloc, project, first, second) {
@@ -191,13 +165,12 @@ fn second_listing<S: Shelf>(
     requires well { IsWell (project_view project.now) }
     requires first { length first.now ≤ limit }
     ensures keeps { S.files shelf.new ≡ S.files shelf.old }
-    ensures faults_stay { S.faults shelf.old ≤ S.faults shelf.new }
-    ensures misses_stay { S.misses shelf.old ≤ S.misses shelf.new }
-    ensures longs_stay { S.longs shelf.old ≤ S.longs shelf.new }
-    ensures told { IfSome (S.files shelf.old) (λ files. Tells (AfterRead files project.now.second.file.now (OfFiles name.now (project_view project.now) first.now)) result) }
-    ensures fault { IfErr result (λ refusal. IsReadFault refusal → Rose (S.faults shelf.old) (S.faults shelf.new)) }
-    ensures missing { IfErr result (λ refusal. IsMissing refusal → Rose (S.misses shelf.old) (S.misses shelf.new)) }
-    ensures long { IfErr result (λ refusal. IsTooLong refusal → Rose (S.longs shelf.old) (S.longs shelf.new)) }
+    ensures none_falls { NoneFalls (counts_of (S.faults shelf.old) (S.misses shelf.old) (S.longs shelf.old))
+        (counts_of (S.faults shelf.new) (S.misses shelf.new) (S.longs shelf.new)) }
+    ensures told { IfSome (S.files shelf.old) (λ files. Tells (AfterRead files project.now.second.file.now
+        (OfFiles name.now (project_view project.now) first.now)) result) }
+    ensures caused { IfErr result (Caused (counts_of (S.faults shelf.old) (S.misses shelf.old) (S.longs shelf.old))
+        (counts_of (S.faults shelf.new) (S.misses shelf.new) (S.longs shelf.new))) }
     ensures kind { IfErr result (λ refusal. status_of refusal ≢ 2) }
     ensures names { IfErr result (FaultNames (λ told. told ≡ project.now.second.file.now)) }
 {
@@ -216,16 +189,15 @@ fn project_listing<S: Shelf>(
 ) -> Result<Vec<u8>, Refusal>
     requires well { IsWell (project_view project.now) }
     ensures keeps { S.files shelf.new ≡ S.files shelf.old }
-    ensures faults_stay { S.faults shelf.old ≤ S.faults shelf.new }
-    ensures misses_stay { S.misses shelf.old ≤ S.misses shelf.new }
-    ensures longs_stay { S.longs shelf.old ≤ S.longs shelf.new }
+    ensures none_falls { NoneFalls (counts_of (S.faults shelf.old) (S.misses shelf.old) (S.longs shelf.old))
+        (counts_of (S.faults shelf.new) (S.misses shelf.new) (S.longs shelf.new)) }
     ensures told { IfSome (S.files shelf.old) (λ files. Tells (AfterRead files project.now.first.file.now
         (λ first. AfterRead files project.now.second.file.now (OfFiles name.now (project_view project.now) first))) result) }
-    ensures fault { IfErr result (λ refusal. IsReadFault refusal → Rose (S.faults shelf.old) (S.faults shelf.new)) }
-    ensures missing { IfErr result (λ refusal. IsMissing refusal → Rose (S.misses shelf.old) (S.misses shelf.new)) }
-    ensures long { IfErr result (λ refusal. IsTooLong refusal → Rose (S.longs shelf.old) (S.longs shelf.new)) }
+    ensures caused { IfErr result (Caused (counts_of (S.faults shelf.old) (S.misses shelf.old) (S.longs shelf.old))
+        (counts_of (S.faults shelf.new) (S.misses shelf.new) (S.longs shelf.new))) }
     ensures kind { IfErr result (λ refusal. status_of refusal ≢ 2) }
-    ensures names { IfSome (S.files shelf.old) (λ files. IfErr result (FaultNames (IsFileName files (project_view project.now)))) }
+    ensures names { IfSome (S.files shelf.old) (λ files. IfErr result
+        (FaultNames (IsFileName files (project_view project.now)))) }
 {
     match read_file(alloc, shelf, project.first.file) {
         Ok(first) => second_listing(alloc, shelf, name, project, first.bytes()),
@@ -241,13 +213,11 @@ fn document_listing<S: Shelf>(
     bytes: &[u8],
 ) -> Result<Vec<u8>, Refusal>
     ensures keeps { S.files shelf.new ≡ S.files shelf.old }
-    ensures faults_stay { S.faults shelf.old ≤ S.faults shelf.new }
-    ensures misses_stay { S.misses shelf.old ≤ S.misses shelf.new }
-    ensures longs_stay { S.longs shelf.old ≤ S.longs shelf.new }
+    ensures none_falls { NoneFalls (counts_of (S.faults shelf.old) (S.misses shelf.old) (S.longs shelf.old))
+        (counts_of (S.faults shelf.new) (S.misses shelf.new) (S.longs shelf.new)) }
     ensures told { IfSome (S.files shelf.old) (λ files. Tells (OfProject files name.now bytes.now) result) }
-    ensures fault { IfErr result (λ refusal. IsReadFault refusal → Rose (S.faults shelf.old) (S.faults shelf.new)) }
-    ensures missing { IfErr result (λ refusal. IsMissing refusal → Rose (S.misses shelf.old) (S.misses shelf.new)) }
-    ensures long { IfErr result (λ refusal. IsTooLong refusal → Rose (S.longs shelf.old) (S.longs shelf.new)) }
+    ensures caused { IfErr result (Caused (counts_of (S.faults shelf.old) (S.misses shelf.old) (S.longs shelf.old))
+        (counts_of (S.faults shelf.new) (S.misses shelf.new) (S.longs shelf.new))) }
     ensures kind { IfErr result (λ refusal. status_of refusal ≢ 2) }
     ensures names { IfSome (S.files shelf.old) (λ files. IfErr result (FaultNames (IsNamed files bytes.now))) }
 {
@@ -269,15 +239,15 @@ pub fn text_for<S: Shelf>(
     shelf: &mut S,
 ) -> Result<Vec<u8>, Refusal>
     ensures keeps { S.files shelf.new ≡ S.files shelf.old }
-    ensures faults_stay { S.faults shelf.old ≤ S.faults shelf.new }
-    ensures misses_stay { S.misses shelf.old ≤ S.misses shelf.new }
-    ensures longs_stay { S.longs shelf.old ≤ S.longs shelf.new }
+    ensures none_falls { NoneFalls (counts_of (S.faults shelf.old) (S.misses shelf.old) (S.longs shelf.old))
+        (counts_of (S.faults shelf.new) (S.misses shelf.new) (S.longs shelf.new)) }
     ensures told { IfSome (S.files shelf.old) (λ files. Tells (IsAnswer (map string_bytes words.now) files) result) }
-    ensures fault { IfErr result (λ refusal. IsReadFault refusal → Rose (S.faults shelf.old) (S.faults shelf.new)) }
-    ensures missing { IfErr result (λ refusal. IsMissing refusal → Rose (S.misses shelf.old) (S.misses shelf.new)) }
-    ensures long { IfErr result (λ refusal. IsTooLong refusal → Rose (S.longs shelf.old) (S.longs shelf.new)) }
-    ensures names { IfSome (S.files shelf.old) (λ files. IfErr result (FaultNames (Reads (map string_bytes words.now) files))) }
-    ensures usage { (result ≡ Err Refusal.Usage) ↔ ((project : List ℕ) → map string_bytes words.now ≢ list_words project) }
+    ensures caused { IfErr result (Caused (counts_of (S.faults shelf.old) (S.misses shelf.old) (S.longs shelf.old))
+        (counts_of (S.faults shelf.new) (S.misses shelf.new) (S.longs shelf.new))) }
+    ensures names { IfSome (S.files shelf.old) (λ files. IfErr result
+        (FaultNames (Reads (map string_bytes words.now) files))) }
+    ensures usage { (result ≡ Err Refusal.Usage)
+        ↔ ((project : List ℕ) → map string_bytes words.now ≢ list_words project) }
     ensures untouched { result ≡ Err Refusal.Usage → shelf.new ≡ shelf.old }
 {
     let Some(project) = project_word(words) else {

@@ -6,15 +6,17 @@ use Rattle.std.proofs.lemmas.Option.{same_Some, slice_get_within}
 use Rattle.std.proofs.lemmas.Bool.{cases_eq}
 use Rattle.cc_io.specs.Shelf.{Files}
 use Rattle.cc_first_runs.specs.Program.{Function, Program}
-use Rattle.cc_top.specs.Words.{limit, list_words}
-use Rattle.cc_top.specs.Project.{Project}
-use Rattle.cc_top.specs.Unit.{Part, program_of}
-use Rattle.cc_top.specs.Listing.{IsWhole, IsEntry, IsListing, heads_of}
+use Rattle.cc_first.specs.Limit.{limit}
+use Rattle.cc_top.specs.Words.{list_words}
+use Rattle.cc_first.specs.Project.{Project}
+use Rattle.cc_first.specs.Unit.{Part, program_of}
+use Rattle.cc_first.specs.Linked.{IsWhole, IsEntry, heads_of}
+use Rattle.cc_first.specs.Listing.{IsListing}
 use Rattle.cc_top_laws.specs.Laws.{OneUnit, OneAnswer}
 use Rattle.cc_top.specs.Refusal.{missing_line, long_line}
 use Rattle.cc_top.specs.Answer.{Reply, refused, done, AfterRead, AfterUnit, OfProgram, OfFiles, OfProject}
 use Rattle.cc_top_laws.proofs.OneListing.{one_listing}
-use Rattle.cc_top_laws.proofs.OneProject.{same_project}
+use Rattle.cc_first.proofs.OneProject.{same_project}
 
 head_at : (program : Program) (e : ℕ) (function : Function) → slice_get program e ≡ Some function → slice_get (heads_of program) e ≡ Some function.head.text
 head_at [] e function h = absurd (let e = h in cc)

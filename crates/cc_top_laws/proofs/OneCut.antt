@@ -4,9 +4,10 @@ use Rattle.std.proofs.Math.Seq.{take-append_seam, drop-append_seam}
 use Rattle.std.specs.List.{list_all}
 use Rattle.cc_base.specs.declared.place.Spot.{Spot}
 use Rattle.cc_base.specs.Spots.{spot_behind}
-use Rattle.cc_top.specs.Cut.{is_white, is_longest, Spelled, IsCut}
-use Rattle.cc_top.specs.Tokens.{is_form_text, token_len, AreFormTokens}
-use Rattle.cc_top_laws.proofs.TokenTexts.{and_true, form_len, form_no_white}
+use Rattle.cc_first.specs.Cut.{is_white, is_longest, Spelled, IsCut}
+use Rattle.cc_first.specs.Tokens.{is_form_text, token_len, AreFormTokens}
+use Rattle.std.proofs.lemmas.Bool.{and_parts}
+use Rattle.cc_first.proofs.TokenLaws.{form_len, form_no_white}
 
 -- the spots are one, where both are asked
 abbrev pub AgreeSpots : Option Spot → Option Spot → Type 0
@@ -27,17 +28,17 @@ begins_white (b ∷ z) = is_white b
 same_gaps : (g h x y : List ℕ) → list_all is_white g ≡ true → list_all is_white h ≡ true → begins_white x ≡ false → begins_white y ≡ false → g ++ x ≡ h ++ y → (g ≡ h) × (x ≡ y)
 same_gaps [] [] x y p q m n e = (refl, e)
 same_gaps [] (b ∷ h) x y p q m n e =
-    let w : is_white b ≡ true = (and_true (is_white b) (list_all is_white h) q).0 in
+    let w : is_white b ≡ true = (and_parts (is_white b) (list_all is_white h) q).0 in
     let v : is_white b ≡ false = subst (λ (z : List ℕ). begins_white z ≡ false) e m in
     absurd cc
 same_gaps (a ∷ g) [] x y p q m n e =
-    let w : is_white a ≡ true = (and_true (is_white a) (list_all is_white g) p).0 in
+    let w : is_white a ≡ true = (and_parts (is_white a) (list_all is_white g) p).0 in
     let v : is_white a ≡ false = subst (λ (z : List ℕ). begins_white z ≡ false) (sym e) n in
     absurd cc
 same_gaps (a ∷ g) (b ∷ h) x y p q m n e =
     let heads : a ≡ b = cc in
     let tails : g ++ x ≡ h ++ y = cc in
-    let r = same_gaps g h x y (and_true (is_white a) (list_all is_white g) p).1 (and_true (is_white b) (list_all is_white h) q).1 m n tails in
+    let r = same_gaps g h x y (and_parts (is_white a) (list_all is_white g) p).1 (and_parts (is_white b) (list_all is_white h) q).1 m n tails in
     (ap (λ (l : List ℕ). a ∷ l) r.0 ∙ ap (λ (c : ℕ). c ∷ h) heads, r.1)
 
 text_no_white : (w r : List ℕ) → is_form_text w ≡ true → begins_white (w ++ r) ≡ false
@@ -56,10 +57,10 @@ same_texts v w r s f g l m e =
 no_token_in : (gap text rest : List ℕ) → is_form_text text ≡ true → list_all is_white (gap ++ (text ++ rest)) ≡ true → ⊥
 no_token_in [] [] rest f e = let no : false ≡ true = f in cc
 no_token_in [] (b ∷ w) rest f e =
-    let p : is_white b ≡ true = (and_true (is_white b) (list_all is_white (w ++ rest)) e).0 in
+    let p : is_white b ≡ true = (and_parts (is_white b) (list_all is_white (w ++ rest)) e).0 in
     let q : is_white b ≡ false = form_no_white b w f in
     cc
-no_token_in (a ∷ gap) text rest f e = no_token_in gap text rest f (and_true (is_white a) (list_all is_white (gap ++ (text ++ rest))) e).1
+no_token_in (a ∷ gap) text rest f e = no_token_in gap text rest f (and_parts (is_white a) (list_all is_white (gap ++ (text ++ rest))) e).1
 
 spots_agree : (a b : Option Spot) (x y : Spot) → x ≡ y → IfSome a (λ s. s ≡ x) → IfSome b (λ s. s ≡ y) → AgreeSpots a b
 spots_agree None b x y e p q = tt

@@ -5,8 +5,8 @@ use Rattle.std.proofs.lemmas.Option.{same_Some}
 use Rattle.std.proofs.lemmas.List.Elements.{All-contains}
 use Rattle.cc_first_runs.specs.Program.{Name, Function, Program, IsSite}
 use Rattle.cc_first_runs.specs.Couplings.{Row, IsBefore, IsOrdered}
-use Rattle.cc_top.specs.Project.{Project}
-use Rattle.cc_top.specs.Listing.{IsListing, AreLines, header, line}
+use Rattle.cc_first.specs.Project.{Project}
+use Rattle.cc_first.specs.Listing.{IsListing, AreLines, header, line}
 
 first_or_later : (x : Row) (xs : List Row) (y : Row) → Contains (x ∷ xs) y → (x ≡ y) ⊎ Contains xs y
 first_or_later x xs y (zero, lt, e) = inl e

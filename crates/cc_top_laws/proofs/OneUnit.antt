@@ -4,13 +4,13 @@ use Rattle.std.specs.Prelude.{codes}
 use Rattle.cc_base.specs.declared.place.Spot.{Spot}
 use Rattle.cc_base.specs.Spots.{start}
 use Rattle.cc_first_runs.specs.Program.{Name}
-use Rattle.cc_top.specs.Names.{is_free_name}
-use Rattle.cc_top.specs.Cut.{Spelled}
-use Rattle.cc_top.specs.Unit.{Part, Declaration, Definition, unit_tokens}
-use Rattle.cc_top.specs.Reads.{AreFree, AreFreeParts, body_tokens}
+use Rattle.cc_first.specs.Names.{is_free_name}
+use Rattle.cc_first.specs.Cut.{Spelled}
+use Rattle.cc_first.specs.Unit.{Part, Declaration, Definition, unit_tokens}
+use Rattle.cc_first.specs.UnitReads.{AreFree, AreFreeParts, body_tokens}
 use Rattle.cc_top_laws.specs.Laws.{OneUnit}
 use Rattle.cc_top_laws.proofs.OneCut.{Agree, cuts_agree}
-use Rattle.cc_top_laws.proofs.UnitForms.{form_unit, unit_free}
+use Rattle.cc_first.proofs.UnitJoin.{form_unit, unit_free}
 
 same_name : (a b : Name) → a.text ≡ b.text → a.spot ≡ b.spot → a ≡ b
 same_name a b p q =

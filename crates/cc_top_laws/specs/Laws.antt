@@ -1,7 +1,7 @@
 -- Laws of the definitions of the first form.
 use Rattle.std.specs.Prelude.{◌≡◌, ℕ, List}
 use Rattle.cc_io.specs.Shelf.{Files}
-use Rattle.cc_top.specs.Unit.{Part, IsUnit}
+use Rattle.cc_first.specs.Unit.{Part, IsUnit}
 use Rattle.cc_top.specs.Answer.{Reply, IsAnswer}
 
 -- bytes spell the parts of at most one file of the first form

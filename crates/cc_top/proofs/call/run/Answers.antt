@@ -20,12 +20,12 @@ returns-in-Err-clause-reached g c =
 pub returns-in-Err-clause-ends : goal.returns-in-Err-clause-ends
 returns-in-Err-clause-ends g c =
     end_of_report (g.S.Shelf.files c.args.shelf.now) (map string_bytes c.args.words.now) c.in-Err.refusal _ _ _ _ _ c.report.result c.in-Err.ensures.told c.in-Err.ensures.names
-    (c.in-Err.ensures.fault, c.in-Err.ensures.missing, c.in-Err.ensures.long) c.report.ensures
+    c.in-Err.ensures.caused c.report.ensures
 
 pub returns-in-Err-clause-fault : goal.returns-in-Err-clause-fault
 returns-in-Err-clause-fault g c =
     fault_of_report c.in-Err.refusal _ _ (g.E.Sink.held c.args.err.now) (g.E.Sink.held c.report.new.err) (g.E.Sink.faults c.args.err.now) (g.E.Sink.faults c.report.new.err) c.report.result
-    c.in-Err.ensures.fault c.report.ensures
+    c.in-Err.ensures.caused.0 c.report.ensures
 
 pub returns-in-Ok-put-clause-told : goal.returns-in-Ok-put-clause-told
 returns-in-Ok-put-clause-told g c =

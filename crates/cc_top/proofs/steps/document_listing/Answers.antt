@@ -1,7 +1,7 @@
 use Rattle.std.proofs.Common.{Some, ap, ◌∙◌}
-use Rattle.cc_top.specs.Project.{IsProject}
-use Rattle.cc_top.specs.Views.{project_view}
-use Rattle.cc_top.proofs.Told.{project_told, project_names}
+use Rattle.cc_first.specs.Project.{IsProject}
+use Rattle.cc_first.specs.Views.{project_view}
+use Rattle.cc_top.proofs.Tells.{project_told, project_names}
 use Rattle.cc_top.proofs.steps.document_listing.Goals as goal
 
 pub returns-in-Some-clause-told : goal.returns-in-Some-clause-told

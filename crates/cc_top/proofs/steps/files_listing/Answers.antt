@@ -1,5 +1,5 @@
-use Rattle.cc_top.specs.Views.{parts_view, project_view}
-use Rattle.cc_top.proofs.Told.{files_told}
+use Rattle.cc_first.specs.Views.{parts_view, project_view}
+use Rattle.cc_top.proofs.Tells.{files_told}
 use Rattle.cc_top.proofs.steps.files_listing.Goals as goal
 
 pub returns-clause-told : goal.returns-clause-told

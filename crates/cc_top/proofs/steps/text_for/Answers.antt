@@ -1,5 +1,5 @@
 use Rattle.std.proofs.Common.{map, string_bytes}
-use Rattle.cc_top.proofs.Told.{words_told, words_names, project_names_itself}
+use Rattle.cc_top.proofs.Tells.{words_told, words_names, project_names_itself}
 use Rattle.cc_top.proofs.steps.text_for.Goals as goal
 
 pub returns-in-Ok-clause-told : goal.returns-in-Ok-clause-told

@@ -1,0 +1,14 @@
+pub mod Cut
+pub mod Limit
+pub mod Linked
+pub mod Linking
+pub mod Listing
+pub mod ListingRows
+pub mod Names
+pub mod Numbers
+pub mod Project
+pub mod SoundProgram
+pub mod Tokens
+pub mod Unit
+pub mod UnitReads
+pub mod Views

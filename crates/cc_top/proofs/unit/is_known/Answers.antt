@@ -1,6 +1,0 @@
-use Rattle.std.proofs.Common.{◌∙◌}
-use Rattle.cc_top.proofs.UnitStands.{among_keys}
-use Rattle.cc_top.proofs.unit.is_known.Goals as goal
-
-pub returns : goal.returns
-returns c = c.contains.ensures ∙ among_keys c.args.heads.now.keys c.args.name.now.text.now

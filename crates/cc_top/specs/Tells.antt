@@ -1,0 +1,39 @@
+-- What a text or a refusal tells of the answer.
+use Rattle.std.specs.Prelude.{◌≡◌, ◌⊎◌, ◌<◌, ℕ, List, Result, Ok, Err, Vec}
+use Rattle.std.specs.declared.alloc.Global.{Global}
+use Rattle.cc_io.specs.Shelf.{Files}
+use Rattle.cc_top.specs.Answer.{Reply, done, refused, Holds}
+use Rattle.cc_top.specs.Ends.{End, write_fault, memory}
+use Rattle.cc_top.specs.Ends as ends
+use Rattle.cc_first.specs.Project.{Project, IsProject}
+use Rattle.cc_top.specs.Refusal.{line_of, status_of, FaultNames}
+use Rattle.cc_top.specs.declared.refusal.Refusal.{Refusal}
+
+abbrev pub reply_of : Refusal → Reply
+reply_of refusal = refused (line_of refusal) (status_of refusal)
+
+-- P holds of the reply that a text stands for, or that a refusal of a status below 4 stands for
+abbrev pub Tells : (Reply → Type 0) → Result (Vec ℕ Global) Refusal → Type 0
+Tells P (Ok text) = P (done text.items)
+Tells P (Err refusal) = status_of refusal < 4 → P (reply_of refusal)
+
+-- the name is that of the first file, or of the second where the first can be had
+abbrev pub IsFileName : Files → Project → List ℕ → Type 0
+IsFileName files project name =
+    (name ≡ project.first.file) ⊎ ((first : List ℕ) × Holds files project.first.file first × (name ≡ project.second.file))
+
+-- the name is that of a file of the project that the bytes say
+abbrev pub IsNamed : Files → List ℕ → List ℕ → Type 0
+IsNamed files bytes name = (project : Project) × IsProject bytes project × IsFileName files project name
+
+-- what an end tells of the answer: the text, whole or in part, and a refusal of a status below 4
+abbrev pub EndTells : (Reply → Type 0) → End → Type 0
+EndTells P (ends.done text) = P (done text)
+EndTells P (ends.refused refusal) = status_of refusal < 4 → P (reply_of refusal)
+EndTells P (write_fault text) = P (done text)
+EndTells P memory = Unit {0}
+
+-- a read fault names a file of which P holds
+abbrev pub EndReads : (List ℕ → Type 0) → End → Type 0
+EndReads P (ends.refused refusal) = FaultNames P refusal
+EndReads P _ = Unit {0}

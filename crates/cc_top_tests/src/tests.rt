@@ -1,0 +1,184 @@
+// Whole answers of the top call, over files in memory. The expected ones are worked out by hand.
+use cc_io::{SureShelf, SureSink};
+use cc_top::run;
+use std::alloc::Global;
+use std::test::Fail;
+
+const PROJECT: &str =
+    "format = 1\nentries = [\"f\"]\n[[component]]\nname = \"A\"\nfiles = [\"a.c\"]\n[[component]]\nname = \"B\"\nfiles = [\"b.c\"]\n";
+
+const SAME_NAME: &str =
+    "format = 1\nentries = [\"f\"]\n[[component]]\nname = \"A\"\nfiles = [\"a.c\"]\n[[component]]\nname = \"A\"\nfiles = [\"b.c\"]\n";
+
+const SAME_FILE: &str =
+    "format = 1\nentries = [\"f\"]\n[[component]]\nname = \"A\"\nfiles = [\"a.c\"]\n[[component]]\nname = \"B\"\nfiles = [\"a.c\"]\n";
+
+const OTHER_ORDER: &str =
+    "component = [{files = [\"a.c\"], name = \"A\"}, {name = \"B\", files = [\"b.c\"]}]\nentries = [\"f\"]\nformat = 1\n";
+
+const A: &str = "void g(void);\nvoid f(void) { g(); }\n";
+
+const B: &str = "void g(void) { }\n";
+
+const HEADER: &str = "row,kind,from,to,definition,use,name\n";
+
+const LISTING: &str = "row,kind,from,to,definition,use,name\n1,call,A,B,a.c:2:16,b.c:1:6,g\n";
+
+const USAGE: &str = "usage: coupling check|list|score|tests|pairs P | gen N\n";
+
+const UNBUILT: &str = "p.toml: form not built yet\n";
+
+// The most bytes that a file may have.
+const LIMIT: usize = 1_048_576;
+
+// Whether the answer to these words is this text on out, this on err, and this status.
+fn answers(
+    alloc: Global,
+    words: &[&str],
+    shelf: &mut SureShelf,
+    out: &str,
+    err: &str,
+    status: u8,
+) -> Result<bool, Fail> {
+    let mut given = Vec::new(alloc);
+    for word in words {
+        given.push(String::from_str(alloc, word)?)?;
+    }
+    let mut out_sink = SureSink::new(alloc);
+    let mut err_sink = SureSink::new(alloc);
+    let ended = run(alloc, &given, shelf, &mut out_sink, &mut err_sink);
+    Ok(ended == status && out_sink.held() == out.as_bytes() && err_sink.held() == err.as_bytes())
+}
+
+// Whether this is the answer of `list` for a project of these files.
+fn lists(
+    alloc: Global,
+    project: &str,
+    a: &str,
+    b: &str,
+    out: &str,
+    err: &str,
+    status: u8,
+) -> Result<bool, Fail> {
+    let mut shelf = SureShelf::new(alloc);
+    shelf.add("p.toml", project.as_bytes())?;
+    shelf.add("a.c", a.as_bytes())?;
+    shelf.add("b.c", b.as_bytes())?;
+    answers(alloc, &["list", "p.toml"], &mut shelf, out, err, status)
+}
+
+#[test]
+fn tables(rt: HostRuntime) -> Result<(), Fail> {
+    let cases = [
+        (PROJECT, A, B, LISTING),
+        (OTHER_ORDER, A, B, LISTING),
+        // Nothing leads from the call of f on.
+        (
+            PROJECT,
+            "void g(void);\nvoid f(void) { f(); g(); }\n",
+            B,
+            HEADER,
+        ),
+        // Calls inside one component, and calls back into the first.
+        (
+            PROJECT,
+            "void x(void);void k(void){}\nvoid f(void){k();x();}",
+            "void k(void);\nvoid z(void){\n\tk();}void x(void){z();k();}",
+            "row,kind,from,to,definition,use,name\n1,call,A,B,a.c:2:18,b.c:3:12,x\n2,call,B,A,b.c:3:2,a.c:1:19,k\n3,call,B,A,b.c:3:24,a.c:1:19,k\n",
+        ),
+    ];
+    for (project, a, b, table) in cases {
+        assert!(rt; lists(rt.alloc(), project, a, b, table, "", 0)?, "{a}{b}");
+    }
+    Ok(())
+}
+
+// Files that are not of the first form; the first such file is what is refused.
+#[test]
+fn refused_files(rt: HostRuntime) -> Result<(), Fail> {
+    let cases = [
+        (A, "int g;", "b.c: form not built yet\n"),
+        // A name that doesn't stand earlier in the second file.
+        (
+            "void x(void);void y(void);void k(void){}\nvoid f(void){k();x();y();}",
+            "void f(void);\nvoid z(void){y();}",
+            "b.c: form not built yet\n",
+        ),
+        ("/* */ void f(void) { }", B, "a.c: form not built yet\n"),
+        ("# 1 \"a.c\"\n", "int g;", "a.c: form not built yet\n"),
+        ("void f(void) { g(); }\n", B, "a.c: form not built yet\n"),
+        ("void f(void) { g()", B, "a.c: form not built yet\n"),
+        ("void while(void) { }", B, "a.c: form not built yet\n"),
+        ("void asm(void) { }", B, "a.c: form not built yet\n"),
+        ("voidf(void) { }", B, "a.c: form not built yet\n"),
+    ];
+    for (a, b, err) in cases {
+        assert!(rt; lists(rt.alloc(), PROJECT, a, b, "", err, 3)?, "{a}{b}");
+    }
+    Ok(())
+}
+
+// Projects that are not of the first form, and files that make no whole program.
+#[test]
+fn refused_projects(rt: HostRuntime) -> Result<(), Fail> {
+    let cases = [
+        (PROJECT, A, ""),
+        (PROJECT, A, "void g(void) { } void f(void) { }"),
+        (PROJECT, "", B),
+        (SAME_NAME, A, B),
+        (SAME_FILE, A, B),
+        ("format = ", A, B),
+        ("", A, B),
+    ];
+    for (project, a, b) in cases {
+        assert!(rt;
+            lists(rt.alloc(), project, a, b, "", UNBUILT, 3)?,
+            "{project}{a}{b}"
+        );
+    }
+    Ok(())
+}
+
+#[test]
+fn words(rt: HostRuntime) -> Result<(), Fail> {
+    let mut shelf = SureShelf::new(rt.alloc());
+    shelf.add("p.toml", PROJECT.as_bytes())?;
+    let cases: [&[&str]; 5] = [
+        &[],
+        &["list"],
+        &["list", "a", "b"],
+        &["gen", "0"],
+        &["draw", "p.toml"],
+    ];
+    for words in cases {
+        assert!(rt;
+            answers(rt.alloc(), words, &mut shelf, "", USAGE, 2)?,
+            "{words:?}"
+        );
+    }
+    Ok(())
+}
+
+#[test]
+fn files(rt: HostRuntime) -> Result<(), Fail> {
+    let mut shelf = SureShelf::new(rt.alloc());
+    shelf.add("p.toml", PROJECT.as_bytes())?;
+    shelf.add("a.c", A.as_bytes())?;
+    let long = vec![in rt.alloc(); b' '; LIMIT + 1]?;
+    shelf.add("long.toml", &long)?;
+    let blank = vec![in rt.alloc(); b' '; LIMIT]?;
+    shelf.add("blank.toml", &blank)?;
+    let cases = [
+        ("p.toml", "b.c: missing\n"),
+        ("q.toml", "q.toml: missing\n"),
+        ("long.toml", "long.toml: too long\n"),
+        ("blank.toml", "blank.toml: form not built yet\n"),
+    ];
+    for (project, err) in cases {
+        assert!(rt;
+            answers(rt.alloc(), &["list", project], &mut shelf, "", err, 3)?,
+            "{project}"
+        );
+    }
+    Ok(())
+}
