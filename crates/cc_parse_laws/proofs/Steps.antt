@@ -1,5 +1,5 @@
 -- Steps of reading: what a step that did not fail has read, and how a step reads what stands there.
-use Rattle.std.proofs.Common.{◌≡◌, ◌+◌, refl, ℕ, zero, suc, Bool, true, false, List, [], ◌∷◌, length, Option, None, Ok, Err, arith, sym, ap, ◌∙◌, subst, ◌⊎◌, inl, inr}
+use Rattle.std.proofs.Common.{◌≡◌, ◌+◌, refl, ℕ, Bool, true, false, List, [], ◌∷◌, length, Option, None, Ok, Err, arith, sym, ap, ◌∙◌, subst, ◌⊎◌, inl, inr}
 use denote.Enum.Bare.{same_true, true_same}
 use Rattle.cc_base.specs.declared.place.Spot.{Spot}
 use Rattle.cc_lex.specs.declared.token.Token.{Token}

@@ -1,5 +1,5 @@
 -- Statements and blocks at which reading fails are begun.
-use Rattle.std.proofs.Common.{◌≡◌, refl, ℕ, zero, suc, Bool, true, false, List, [], ◌∷◌, length, Option, Some, None, Ok, Err, arith, sym, ap, ◌∙◌}
+use Rattle.std.proofs.Common.{◌≡◌, refl, ℕ, zero, suc, Bool, true, List, [], ◌∷◌, length, Option, Some, None, Ok, Err, arith, sym, ap, ◌∙◌}
 use Rattle.cc_base.specs.declared.place.Spot.{Spot}
 use Rattle.cc_base.specs.Spots as spots
 use Rattle.cc_lex.specs.declared.token.Token.{Token}

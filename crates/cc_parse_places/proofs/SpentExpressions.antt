@@ -1,5 +1,5 @@
 -- An expression that is begun is taken.
-use Rattle.std.proofs.Common.{◌≡◌, ◌≤◌, ◌<◌, ◌+◌, refl, ℕ, ℤ, zero, suc, Bool, true, false, List, [], ◌∷◌, Option, Some, None, arith, sym, ap, subst, ◌∙◌, inl, inr, ◌&&◌, ◌==◌, nat_le}
+use Rattle.std.proofs.Common.{◌≡◌, ◌≤◌, ◌<◌, ◌+◌, refl, ℕ, ℤ, zero, suc, true, false, List, [], ◌∷◌, Option, Some, None, arith, sym, ap, subst, ◌∙◌, inl, inr, ◌&&◌, ◌==◌, nat_le}
 use Rattle.std.proofs.lemmas.Bool.{le-leb, ne_eqb, and_left, and_right, and_from}
 use Rattle.cc_base.specs.declared.place.Spot.{Spot}
 use Rattle.cc_lex.specs.declared.token.Token.{Token}
