@@ -31,7 +31,7 @@ else_reads h i d (t ∷ ts) r holds e s =
     let plainly : Reads (outlines.keyword the_keyword.Else i) d (t ∷ ts) r = next_keyword_reads the_keyword.Else None i d (t ∷ ts) r e tt s in
     (holds, plainly.1, plainly.2, plainly.3)
 
-shut : (b : Bool) (c : Bool) → (b ≡ true → c ≡ false) → c ≡ true → b ≡ false
+pub shut : (b c : Bool) → (b ≡ true → c ≡ false) → c ≡ true → b ≡ false
 shut true c h e = absurd (let no : c ≡ false = h refl in cc)
 shut false c h e = refl
 

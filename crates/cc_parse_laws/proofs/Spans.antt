@@ -42,7 +42,7 @@ reads_within (token a k s o) d e (t ∷ ts) r x h = (x.0, x.1, x.2, reads_within
 reads_within (part c a i o) d e ts r x h =
     (x.0, x.1, inside_fits c (λ f. Reads i f ts x.0) (depth i) (λ f g y k. reads_within i f g ts x.0 y k) d e x.2 (omega (arith, h)), reads_within o d e x.0 r x.3 (omega (arith, h)))
 
-inside_holds : (c : Bool) (P : ℕ → Type 0) (Q : Type 0) → ((e : ℕ) → P e → Q) → (d : ℕ) → Inside c P d → Q
+pub inside_holds : (c : Bool) (P : ℕ → Type 0) (Q : Type 0) → ((e : ℕ) → P e → Q) → (d : ℕ) → Inside c P d → Q
 inside_holds false P Q give d x = give d x
 inside_holds true P Q give zero x = absurd x
 inside_holds true P Q give (suc d) x = give d x

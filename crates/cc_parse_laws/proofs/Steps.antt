@@ -1,5 +1,5 @@
 -- Steps of reading: what a step that did not fail has read, and how a step reads what stands there.
-use Rattle.std.proofs.Common.{◌≡◌, ◌+◌, refl, ℕ, zero, suc, Bool, true, false, List, [], ◌∷◌, length, Option, None, Ok, Err, arith, sym, ap, ◌∙◌, subst, ◌⊎◌, inl, inr}
+use Rattle.std.proofs.Common.{◌≡◌, ◌+◌, refl, ℕ, Bool, true, false, List, [], ◌∷◌, length, Option, None, Ok, Err, arith, sym, ap, ◌∙◌, subst, ◌⊎◌, inl, inr}
 use denote.Enum.Bare.{same_true, true_same}
 use Rattle.cc_base.specs.declared.place.Spot.{Spot}
 use Rattle.cc_lex.specs.declared.token.Token.{Token}
@@ -14,7 +14,7 @@ use Rattle.cc_grammar.specs.Outlines.{punct, keyword}
 use Rattle.cc_grammar.specs.Classes.{is_punct, is_keyword, next_is, next_is_keyword, skip, spot}
 use Rattle.cc_grammar.specs.Outcomes.{Outcome, Parser, and_then, take, take_keyword}
 use Rattle.cc_grammar.specs.Reading.{branch}
-use Rattle.cc_parse_laws.proofs.Spans.{Inside, Reads}
+use Rattle.cc_parse_laws.proofs.Spans.{Reads, inside_holds}
 
 -- ---- Steps that did not fail
 
@@ -146,16 +146,11 @@ reads_take_keyword h w n o d (t ∷ ts) r x = take_that w t ts (kind_keyword w t
 
 -- ---- Lengths
 
-inside_length : (c : Bool) (P : ℕ → Type 0) (Q : Type 0) → ((e : ℕ) → P e → Q) → (d : ℕ) → Inside c P d → Q
-inside_length false P Q give d x = give d x
-inside_length true P Q give zero x = absurd x
-inside_length true P Q give (suc d) x = give d x
-
 -- each token counts
 pub reads_length : (o : Outline) (d : ℕ) (ts r : List Token) → Reads o d ts r → length ts ≡ size o + length r
 reads_length end d ts r x = ap length x ∙ omega arith
 reads_length (token h k n o) d [] r x = absurd x
 reads_length (token h k n o) d (t ∷ ts) r x = omega (arith, reads_length o d ts r x.3)
 reads_length (part c h i o) d ts r x =
-    let inner : length ts ≡ size i + length x.0 = inside_length c (λ e. Reads i e ts x.0) (length ts ≡ size i + length x.0) (λ e y. reads_length i e ts x.0 y) d x.2 in
+    let inner : length ts ≡ size i + length x.0 = inside_holds c (λ e. Reads i e ts x.0) (length ts ≡ size i + length x.0) (λ e y. reads_length i e ts x.0 y) d x.2 in
     omega (arith, inner, reads_length o d x.0 r x.3)

@@ -1,5 +1,5 @@
 -- Statements and blocks at which reading fails are begun.
-use Rattle.std.proofs.Common.{◌≡◌, refl, ℕ, zero, suc, Bool, true, false, List, [], ◌∷◌, length, Option, Some, None, Ok, Err, arith, sym, ap, ◌∙◌}
+use Rattle.std.proofs.Common.{◌≡◌, refl, ℕ, zero, suc, Bool, true, List, [], ◌∷◌, length, Option, Some, None, Ok, Err, arith, sym, ap, ◌∙◌}
 use Rattle.cc_base.specs.declared.place.Spot.{Spot}
 use Rattle.cc_base.specs.Spots as spots
 use Rattle.cc_lex.specs.declared.token.Token.{Token}
@@ -22,7 +22,7 @@ use Rattle.cc_parse_laws.proofs.Peeks.{at_punct}
 use Rattle.cc_parse_laws.proofs.SoundReaders.{readers_sound}
 use Rattle.cc_parse_laws.proofs.SoundClauses.{condition_sound, clause_sound, start_sound}
 use Rattle.cc_parse_laws.proofs.SoundBlocks.{ReadsStmt}
-use Rattle.cc_parse_laws.proofs.SoundStatements.{stmt_sound}
+use Rattle.cc_parse_laws.proofs.SoundStatements.{stmt_sound, shut}
 use Rattle.cc_parse_laws.proofs.SoundBlocks.{item_sound}
 use Rattle.cc_parse_places.proofs.Begun.{Begun, at, token_then, next_keyword, punct_then, keyword_then, part_in, part_past, part_of, within_in, within_past, read_past}
 use Rattle.cc_parse_places.proofs.Failures.{err_is, bind_err, map_err, branch_err, take_bind, take_keyword_bind, until_err, take_bind_ok, take_keyword_bind_ok}
@@ -46,10 +46,6 @@ no_condition = name spots.start []
 -- an expression in parentheses
 abbrev tested : Names → ExprTree Spot → Outline
 tested names c = outlines.punct the_punct.LeftParen ▸ outlines.operand 1 c (outlines.expr names c) ▸ outlines.punct the_punct.RightParen ▸ end
-
-shut : (b c : Bool) → (b ≡ true → c ≡ false) → c ≡ true → b ≡ false
-shut true c h e = absurd (let no : c ≡ false = h refl in cc)
-shut false c h e = refl
 
 -- ---- What counts in a block
 

@@ -7,15 +7,10 @@ use Rattle.cc_tree.specs.Trees.{ExternalTree}
 use Rattle.cc_grammar.specs.Outline.{Outline, end, token, part, Meets, Written, size, first, spell}
 use Rattle.cc_grammar.specs.Outlines as outlines
 use Rattle.cc_grammar.specs.CutOff.{CutOff}
-use Rattle.cc_parse_laws.proofs.Spans.{Inside, Reads, reads_hold, reads_depth, reads_spell}
+use Rattle.cc_parse_laws.proofs.Spans.{Inside, Reads, reads_hold, reads_depth, reads_spell, inside_holds}
 use Rattle.cc_parse_laws.proofs.Steps.{reads_length}
 use Rattle.cc_parse_places.proofs.Forks.{Ending, ending_of}
 use Rattle.cc_parse_places.proofs.Begun.{Cut, Begun}
-
-inside_holds : (c : Bool) (P : ℕ → Type 0) (Q : Type 0) → ((e : ℕ) → P e → Q) → (d : ℕ) → Inside c P d → Q
-inside_holds false P Q give d x = give d x
-inside_holds true P Q give zero x = absurd x
-inside_holds true P Q give (suc d) x = give d x
 
 pub inside_maps : (c : Bool) (P Q : ℕ → Type 0) (d : ℕ) → ((e : ℕ) → P e → Q e) → Inside c P d → Inside c Q d
 inside_maps false P Q d f x = f d x

@@ -1,5 +1,6 @@
 -- Declarators are read alike on two texts that part behind a token.
 use Rattle.std.proofs.Common.{◌≡◌, ◌≤◌, ◌<◌, ◌+◌, refl, ℕ, zero, suc, Bool, true, false, List, [], ◌∷◌, ◌++◌, length, None, arith, nat_lt, ◌&&◌, ◌||◌, ◌==◌, ap}
+use Rattle.std.proofs.Math.Bool.{and-false}
 use Rattle.std.proofs.lemmas.Bool.{lt-ltb}
 use Rattle.cc_base.specs.declared.place.Spot.{Spot}
 use Rattle.cc_lex.specs.declared.token.Token.{Token}
@@ -114,11 +115,7 @@ module _ {t : Fork} {u : ℕ} (names : Names) (inner : Inner) (d : ℕ) (good : 
   nothing_opens with_or_without k ts e deep f = suffixes_open d k ts e deep deep
 
   no_id : (mode : Mode) (x : TokenKind) → is_punct the_punct.LeftParen x ≡ true → (takes_name mode && reader.is_id names inner d (ident x)) ≡ false
-  no_id mode x e = let is : ident x ≡ None = ap ident (punct_kind the_punct.LeftParen x e) in rw is (and_no (takes_name mode))
-    where
-      and_no : (b : Bool) → (b && false) ≡ false
-      and_no true = refl
-      and_no false = refl
+  no_id mode x e = let is : ident x ≡ None = ap ident (punct_kind the_punct.LeftParen x e) in rw is (and-false (takes_name mode))
 
   -- Either way a parenthesis is taken.
   suffixed_opens : (mode : Mode) (k : Token) (ts : List Token) → is_punct the_punct.LeftParen k.kind ≡ true → 0 < d → Leaves (suffixed mode (k ∷ ts)) (suc (length ts))

@@ -1,5 +1,5 @@
 -- An expression that is begun is taken.
-use Rattle.std.proofs.Common.{◌≡◌, ◌≤◌, ◌<◌, ◌+◌, refl, ℕ, ℤ, zero, suc, Bool, true, false, List, [], ◌∷◌, Option, Some, None, arith, sym, ap, subst, ◌∙◌, inl, inr, ◌&&◌, ◌==◌, nat_le}
+use Rattle.std.proofs.Common.{◌≡◌, ◌≤◌, ◌<◌, ◌+◌, refl, ℕ, ℤ, zero, suc, true, false, List, [], ◌∷◌, Option, Some, None, arith, sym, ap, subst, ◌∙◌, inl, inr, ◌&&◌, ◌==◌, nat_le}
 use Rattle.std.proofs.lemmas.Bool.{le-leb, ne_eqb, and_left, and_right, and_from}
 use Rattle.cc_base.specs.declared.place.Spot.{Spot}
 use Rattle.cc_lex.specs.declared.token.Token.{Token}
@@ -23,6 +23,7 @@ use Rattle.cc_grammar.specs.Outlines as outlines
 use Rattle.cc_grammar.specs.Classes.{next_is, next_literal, literal, skip, spot, starts_spec, start, start_kind, Start, begins_paren, begins_unary, begins_step, begins_sizeof, begins_nothing, tail, tail_kind, tail_punct, Tail, goes_binary, goes_assign, goes_question, goes_comma, goes_call, goes_index, goes_dot, goes_arrow, goes_step, binds, left_level}
 use Rattle.cc_grammar.specs.Outcomes.{Parser, and_then, take, pure, refuse, ◌<$>◌, ◌>>=◌, ◌>>◌}
 use Rattle.cc_grammar.specs.Reading.{Inner, Mode, without_name, prefix, climb, go_on, goes_on, expression, arguments, typed, id, where_next, skipping, behind_paren, behind_sizeof}
+use Rattle.cc_parse_places.proofs.Forks.{and_false}
 use Rattle.cc_parse_laws.proofs.Spans.{Inside, Reads}
 use Rattle.cc_parse_laws.proofs.Steps.{branch_true, branch_false}
 use Rattle.cc_parse_laws.proofs.Lists.{takes}
@@ -299,15 +300,11 @@ module _ (names : Names) (inner : Inner) (d : ℕ) (good : CompleteInner names i
   paren_begun zero ts e next z = absurd cc
   paren_begun (suc c) ts e next z = token_then tt next refl (at z)
 
-  and_rest : (a b : Bool) → a ≡ true → (a && b) ≡ false → b ≡ false
-  and_rest true b e f = f
-  and_rest false b e f = absurd cc
-
   only_paren : (n : Spot) (ts : List Token) → NextKind (kind.Punct the_punct.LeftParen) ts → skip ts ≡ [] → Spent (behind_sizeof names inner (suc d) n ts)
   only_paren n ts next z =
       not_type n ts (and_right (next_is the_punct.LeftParen ts) (starts_spec names (skip ts)) (ap (starts_spec names) z))
       (spent_branch (next_is the_punct.LeftParen ts && (suc d == 1)) (skipping refuse) (size_expr n <$> inner.expr 15) ts (λ e. z)
-      (λ e. spent_map (inner.expr 15 ts) (size_expr n) (spent.expr 15 (paren (spot ts) (name (spot ts) [])) ts (omega arith) (inr (omega arith, paren_begun d ts (and_rest (next_is the_punct.LeftParen ts) (suc d == 1) (next_kind_punct the_punct.LeftParen ts next) e) next z)))))
+      (λ e. spent_map (inner.expr 15 ts) (size_expr n) (spent.expr 15 (paren (spot ts) (name (spot ts) [])) ts (omega arith) (inr (omega arith, paren_begun d ts (and_false (next_is the_punct.LeftParen ts) (suc d == 1) (next_kind_punct the_punct.LeftParen ts next) e) next z)))))
 
   is_a_type : (n : Spot) (ts : List Token) → NextKind (kind.Punct the_punct.LeftParen) ts → starts_spec names (skip ts) ≡ true → Spent (types_behind n ts) → Spent (behind_sizeof names inner (suc d) n ts)
   is_a_type n ts next e s = spent_is _ _ (branch_true (type_ahead names ts) (types_behind n) (operands_behind n) ts (and_from (next_is the_punct.LeftParen ts) (starts_spec names (skip ts)) (next_kind_punct the_punct.LeftParen ts next) e)) s
