@@ -1,11 +1,10 @@
 -- Characters one after another.
 use Rattle.std.proofs.Common.{◌≡◌, ℕ, zero, suc, ◌+◌, ◌-◌, ◌≤◌, ◌<◌, add-zero, append_assoc, not, eqb, List, [], ◌∷◌, ◌++◌, length, drop, length-drop, Option, Some, None, refl, sym, ap, ◌∙◌, arith, inl, inr}
-use Rattle.std.proofs.lemmas.Bool.{eqb-true, eqb-false, ne_eqb}
+use Rattle.std.proofs.lemmas.Bool.{cases_Bool, eqb-false, eqb-true, ne_eqb}
 use Rattle.std.proofs.lemmas.List.{nil_from_length}
 use Rattle.cc_lex.specs.Bytes.{first}
 use Rattle.cc_lex.specs.Characters.{character_len, character_value, characters, values_of, escape_faults}
 use Rattle.cc_lex.specs.Reading.{first_fault}
-use Rattle.cc_lex.proofs.Cases.{cases}
 
 -- bytes that belong to the character before are passed
 pub passed : (at left : ℕ) (z : List ℕ) → characters at left z ≡ characters (at + left) 0 (drop left z)
@@ -14,7 +13,7 @@ passed at (suc left) [] = refl
 passed at (suc left) (b ∷ z) = let e : at + 1 + left ≡ at + suc left = omega arith in passed (at + 1) left z ∙ ap (λ k. characters k 0 (drop left z)) e
 
 len_some : (z : List ℕ) → 1 ≤ character_len z
-len_some z = elim (cases (eqb (first z) 92)) [ inl e ↦ rw e (omega arith) | inr e ↦ rw e (omega arith) ]
+len_some z = elim (cases_Bool (eqb (first z) 92)) [ inl e ↦ rw e (omega arith) | inr e ↦ rw e (omega arith) ]
 
 drop_more : (n b : ℕ) (z : List ℕ) → 1 ≤ n → drop (n - 1) z ≡ drop n (b ∷ z)
 drop_more zero b z h = absurd (omega arith)
@@ -68,7 +67,7 @@ pub one_character : (z : List ℕ) → 0 < length z → character_len z ≤ leng
 one_character z h w =
     let n = character_len z in
     let s : length (characters 1 0 z) ≡ suc (length (characters (1 + n) 0 (drop n z))) = ap length (character_step 1 z h) in
-    elim (cases (eqb n (length z))) [
+    elim (cases_Bool (eqb n (length z))) [
       | inl e ↦
           let is : n ≡ length z = eqb-true _ _ e in
           let none : drop n z ≡ [] = nil_from_length (drop n z) (omega (arith, length-drop {A = ℕ})) in

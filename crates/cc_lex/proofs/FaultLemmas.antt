@@ -1,6 +1,6 @@
 -- The faults of a token, in their order.
 use Rattle.std.proofs.Common.{◌≡◌, ℕ, zero, suc, ◌+◌, ◌-◌, ◌≤◌, ◌<◌, ◌^◌, true, ◌&&◌, eqb, leb, List, [], ◌∷◌, length, Contains, Option, Some, None, refl, sym, ap, subst, arith, ◌⊎◌, inl, inr}
-use Rattle.std.proofs.lemmas.Bool.{leb-true, leb-false}
+use Rattle.std.proofs.lemmas.Bool.{cases_Bool, leb-false, leb-true}
 use Rattle.cc_arith.specs.declared.kind.IntKind.{IntKind}
 use Rattle.cc_lex.specs.declared.number.Suffix.{Suffix}
 use Rattle.cc_lex.specs.Bytes.{first, is_quote}
@@ -10,7 +10,6 @@ use Rattle.cc_lex.specs.Characters.{inner, character_len, character_value, chara
 use Rattle.cc_lex.specs.Meanings.{is_prefix, faults}
 use Rattle.cc_lex.specs.Faults.{NotAfter}
 use Rattle.cc_lex.specs.Reading.{IsSound}
-use Rattle.cc_lex.proofs.Cases.{cases}
 use Rattle.cc_lex.proofs.TypeLemmas.{none_fit}
 
 pub contained_cases : {X : Type 0} (g x : X) (gs : List X) → Contains (g ∷ gs) x → (g ≡ x) ⊎ Contains gs x
@@ -80,7 +79,7 @@ string_ascending w g gs x e c = escapes_ascending 1 0 (inner w) g gs x e c
 character_ascending : (w : List ℕ) → IsAscending (character_faults w)
 unfolding character_faults
 character_ascending w g gs x e c =
-    elim (cases (eqb (length (characters_of w)) 1)) [
+    elim (cases_Bool (eqb (length (characters_of w)) 1)) [
       | inl one ↦ escapes_ascending 1 0 (inner w) g gs x (rw one at e) c
       | inr other ↦ first_of_all 0 5 (escape_faults (characters_of w)) (λ y d. omega (arith, escapes_from 1 0 (inner w) y d)) g gs x (rw other at e) c
     ]
@@ -106,14 +105,14 @@ with_none (b ∷ z) (Some s) (Some k) e = (k, refl)
 typed_small : (w : List ℕ) (s : Option Suffix) (k : IntKind) → type_with w s ≡ Some k → value_of w < 2 ^ 64
 typed_small w None k e = absurd cc
 typed_small w (Some s) k e =
-    elim (cases (leb (2 ^ 64) (value_of w))) [
+    elim (cases_Bool (leb (2 ^ 64) (value_of w))) [
       | inl l ↦ absurd (let none : type_with w (Some s) ≡ None = none_fit (value_of w) (types_for s.is_unsigned (eqb (base_of w) 10) s.longs) (leb-true _ _ l) in cc)
       | inr l ↦ omega (arith, leb-false _ _ l)
     ]
 
 pub number_sound : (w : List ℕ) (after : ℕ) → faults w after ≡ [] → begins_number w ≡ true → number_faults w ≡ []
 unfolding faults
-number_sound w after e n = elim (cases (is_prefix w && is_quote after)) [ inl o ↦ absurd (let none_is : (0, 9) ∷ [] ≡ [] = rw o at e in cc) | inr o ↦ rw (o, n) at e ]
+number_sound w after e n = elim (cases_Bool (is_prefix w && is_quote after)) [ inl o ↦ absurd (let none_is : (0, 9) ∷ [] ≡ [] = rw o at e in cc) | inr o ↦ rw (o, n) at e ]
 
 -- the value of a number without faults
 pub number_small : (w : List ℕ) → IsSound w → begins_number w ≡ true → value_of w < 2 ^ 64
@@ -127,19 +126,19 @@ number_small w (t, (after, e)) n =
 pub faults_ascending : (w : List ℕ) (after : ℕ) → IsAscending (faults w after)
 unfolding faults
 faults_ascending w after g gs x e c =
-    elim (cases (is_prefix w && is_quote after)) [
+    elim (cases_Bool (is_prefix w && is_quote after)) [
       | inl o ↦ alone (0, 9) g gs x (rw o at e) c
       | inr o ↦
-          elim (cases (begins_number w)) [
+          elim (cases_Bool (begins_number w)) [
             | inl n ↦ number_ascending w g gs x (rw (o, n) at e) c
             | inr n ↦
-                elim (cases (eqb (first w) 39)) [
+                elim (cases_Bool (eqb (first w) 39)) [
                   | inl q ↦ character_ascending w g gs x (rw (o, n, q) at e) c
                   | inr q ↦
-                      elim (cases (eqb (first w) 34)) [
+                      elim (cases_Bool (eqb (first w) 34)) [
                         | inl s ↦ string_ascending w g gs x (rw (o, n, q, s) at e) c
                         | inr s ↦
-                            elim (cases (is_digraph w)) [
+                            elim (cases_Bool (is_digraph w)) [
                               | inl d ↦ alone (0, 9) g gs x (rw (o, n, q, s, d) at e) c
                               | inr d ↦ absurd (let none_is : [] ≡ g ∷ gs = rw (o, n, q, s, d) at e in cc)
                             ]

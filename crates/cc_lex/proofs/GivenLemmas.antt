@@ -2,7 +2,7 @@
 use Rattle.std.proofs.Common.{◌≡◌, ℕ, ◌≤◌, ◌<◌, Bool, true, false, cond, eqb, leb, ltb, List, [], ◌∷◌, ◌++◌, Option, Some, None, pos, Contains, refl, sym, ap, ◌∙◌, subst, arith, inl, inr}
 use Rattle.std.specs.Prelude.{unwrap_or, ◌≤ℤ◌}
 use Rattle.std.specs.List.{list_all}
-use Rattle.std.proofs.lemmas.Bool.{ltb-true, ltb-false, leb-true, and_from}
+use Rattle.std.proofs.lemmas.Bool.{and_from, and_parts, cases_Bool, leb-true, ltb-false, ltb-true}
 use Rattle.std.proofs.lemmas.Int.{ints}
 use Rattle.cc_arith.specs.declared.kind.IntKind.{IntKind}
 use Rattle.cc_arith.specs.declared.kind.IntKind.TheVariants as kind
@@ -22,7 +22,6 @@ use Rattle.cc_lex.specs.Cut.{Cut, tokens_from}
 use Rattle.cc_lex.specs.Given.{is_constant_kind, CanBeGiven}
 use Rattle.cc_base.specs.declared.place.Spot.{Spot}
 use Rattle.cc_base.specs.Spots.{start, spot_behind}
-use Rattle.cc_lex.proofs.Cases.{cases, and_true}
 use Rattle.cc_lex.proofs.TypeLemmas.{top, fits_top}
 use Rattle.cc_lex.proofs.FaultLemmas.{contained_cases, contains_none, with_none, number_sound}
 use Rattle.cc_lex.proofs.MeaningLemmas.{name_of_letter}
@@ -32,8 +31,8 @@ use Rattle.cc_lex.proofs.MeaningLemmas.{name_of_letter}
 fit_passes : (n : ℕ) (ks : List IntKind) (k : IntKind) → list_all is_constant_kind ks ≡ true → first_fit n ks ≡ Some k → (is_constant_kind k ≡ true) × (is_in_range k (pos n) ≡ true)
 fit_passes n [] k a e = absurd cc
 fit_passes n (j ∷ ks) k a e =
-    let p = and_true (is_constant_kind j) (list_all is_constant_kind ks) a in
-    elim (cases (is_in_range j (pos n))) [
+    let p = and_parts (is_constant_kind j) (list_all is_constant_kind ks) a in
+    elim (cases_Bool (is_in_range j (pos n))) [
       | inl f ↦
           let same : Some j ≡ Some k = rw f at e in
           let is : j ≡ k = cc in
@@ -43,7 +42,7 @@ fit_passes n (j ∷ ks) k a e =
 
 all_append : (ks js : List IntKind) → list_all is_constant_kind ks ≡ true → list_all is_constant_kind js ≡ true → list_all is_constant_kind (ks ++ js) ≡ true
 all_append [] js a b = b
-all_append (k ∷ ks) js a b = let p = and_true (is_constant_kind k) (list_all is_constant_kind ks) a in and_from _ _ p.0 (all_append ks js p.1 b)
+all_append (k ∷ ks) js a b = let p = and_parts (is_constant_kind k) (list_all is_constant_kind ks) a in and_from _ _ p.0 (all_append ks js p.1 b)
 
 rank_all : (u d : Bool) (s k : IntKind) → is_constant_kind s ≡ true → is_constant_kind k ≡ true → list_all is_constant_kind (types_of_rank u d s k) ≡ true
 rank_all true d s k a b = and_from _ _ b refl
@@ -89,7 +88,7 @@ integer_given w o k e p =
 
 char_given : (v : ℕ) → IsInRange Char (as_char v)
 char_given v =
-    elim (cases (ltb v 128)) [
+    elim (cases_Bool (ltb v 128)) [
       | inl l ↦ let h : v < 128 = ltb-true _ _ l in rw l (omega (arith, ints), omega (arith, ints))
       | inr l ↦ let h : 128 ≤ v = omega (arith, ltb-false _ _ l) in rw l (omega (arith, ints), omega (arith, ints))
     ]
@@ -113,15 +112,15 @@ number_given w after e n =
 meaning_given : (w : List ℕ) (after : ℕ) → is_token w ≡ true → faults w after ≡ [] → CanBeGiven (meaning w)
 unfolding meaning
 meaning_given w after t e =
-    elim (cases (is_letter (first w))) [
+    elim (cases_Bool (is_letter (first w))) [
       | inl l ↦ rw l (word_given w (name_of_letter w t l))
       | inr l ↦
-          elim (cases (begins_number w)) [
+          elim (cases_Bool (begins_number w)) [
             | inl n ↦ rw (l, n) (number_given w after e n)
             | inr n ↦
-                elim (cases (eqb (first w) 39)) [
+                elim (cases_Bool (eqb (first w) 39)) [
                   | inl q ↦ rw (l, n, q) (char_given _)
-                  | inr q ↦ elim (cases (eqb (first w) 34)) [ inl s ↦ rw (l, n, q, s) tt | inr s ↦ rw (l, n, q, s) tt ]
+                  | inr q ↦ elim (cases_Bool (eqb (first w) 34)) [ inl s ↦ rw (l, n, q, s) tt | inr s ↦ rw (l, n, q, s) tt ]
                 ]
           ]
     ]

@@ -7,7 +7,7 @@ use Rattle.cc_lex.specs.declared.step.Step.TheVariants as step
 use Rattle.cc_lex.specs.declared.step.Fault.{Fault}
 use Rattle.cc_lex.specs.declared.token.Token.{Token}
 use Rattle.cc_lex.specs.Bytes.{first}
-use Rattle.cc_lex.specs.Pieces.{Piece, white, comment, line, token, bytes_of, spell, Stands, Cuts, starts_after}
+use Rattle.cc_lex.specs.Pieces.{Piece, white, comment, line, token, bytes_of, spell, IsInPlace, Cuts, starts_after}
 use Rattle.cc_lex.specs.Cut.{tokens_from}
 use Rattle.cc_lex.specs.Reading.{next, len_of, piece_of, pair_of, IsMeant, added, IsRead, IsAll, Stopped}
 use Rattle.cc_lex.proofs.Next.{next_stands}
@@ -23,7 +23,7 @@ piece_bytes (step.Comment n) z = refl
 piece_bytes (step.Line n) z = refl
 piece_bytes (step.Token n) z = refl
 
-meant : (starts : Bool) (s : Step) (z r : List ℕ) → Stands starts (piece_of s z) r → IsMeant s (take (len_of s) z)
+meant : (starts : Bool) (s : Step) (z r : List ℕ) → IsInPlace starts (piece_of s z) r → IsMeant s (take (len_of s) z)
 meant starts (step.White n) z r h = tt
 meant starts (step.Comment n) z r h = tt
 meant starts (step.Line n) z r h = tt
@@ -32,7 +32,7 @@ meant starts (step.Token n) z r h = (h.0.passes_itself, (first r, h.2))
 pub record StepRight (starts : Bool) (s : Step) (z : List ℕ) : Type 0 where
   pub some : 0 < length (take (len_of s) z)
   pub meant_so : IsMeant s (take (len_of s) z)
-  pub stands : Stands starts (piece_of s z) (drop (len_of s) z)
+  pub stands : IsInPlace starts (piece_of s z) (drop (len_of s) z)
 
 pub step_right : (starts : Bool) (s : Step) (z : List ℕ) → next starts z ≡ Ok (piece_of s z) → StepRight starts s z
 step_right starts s z e =
@@ -42,7 +42,7 @@ step_right starts s z e =
     record {
       some = subst (λ t. 0 < length t) (piece_bytes s z) b.some;
       meant_so = meant starts s z b.rest b.right;
-      stands = subst (λ t. Stands starts (piece_of s z) t) rest b.right;
+      stands = subst (λ t. IsInPlace starts (piece_of s z) t) rest b.right;
     }
 
 pub after_append : (s : Spot) (a b : List ℕ) → spot_behind s (a ++ b) ≡ spot_behind (spot_behind s a) b
@@ -73,7 +73,7 @@ read_more bytes z starts spot ts s r e =
     let spelled : spell (r.pieces ++ p ∷ []) ≡ spell r.pieces ++ w = subst (λ t. spell (r.pieces ++ p ∷ []) ≡ spell r.pieces ++ t) b (spell_snoc r.pieces p) in
     record {
       pieces = r.pieces ++ p ∷ [];
-      cuts = cuts_snoc true r.pieces bytes p (drop (len_of s) z) (subst (λ t. Cuts true r.pieces bytes t) text r.cuts) (subst (λ (v : Bool). Stands v p (drop (len_of s) z)) r.starts_is h.stands);
+      cuts = cuts_snoc true r.pieces bytes p (drop (len_of s) z) (subst (λ t. Cuts true r.pieces bytes t) text r.cuts) (subst (λ (v : Bool). IsInPlace v p (drop (len_of s) z)) r.starts_is h.stands);
       starts_is = rw spelled (ap (λ v. starts_after v w) r.starts_is ∙ sym (starts_append true (spell r.pieces) w));
       spot_is = rw spelled (ap (λ v. spot_behind v w) r.spot_is ∙ sym (after_append start (spell r.pieces) w));
       tokens_is = tokens_end bytes z starts spot ts s r;

@@ -1,13 +1,12 @@
 -- The piece that is read is the one that stands there, and a fault that is read is the least.
 use Rattle.std.proofs.Common.{◌≡◌, ℕ, zero, suc, ◌≤◌, ◌<◌, Bool, true, false, ◌&&◌, ◌||◌, eqb, List, [], ◌∷◌, ◌++◌, length, take, drop, length-take, length-append, Contains, Result, Ok, Err, refl, sym, ap, subst, arith, inl, inr}
-use Rattle.std.proofs.lemmas.Bool.{eqb-true, eqb-false, eq-eqb, ne_eqb, or_cases, and_from}
+use Rattle.std.proofs.lemmas.Bool.{and_from, and_parts, cases_Bool, eq-eqb, eqb-false, eqb-true, ne_eqb, or_cases}
 use Rattle.cc_lex.specs.Bytes.{first, is_white, is_quote, in_white, in_line, chain}
 use Rattle.cc_lex.specs.Spellings.{is_token}
 use Rattle.cc_lex.specs.Meanings.{faults, meaning}
-use Rattle.cc_lex.specs.Pieces.{Piece, white, comment, line, token, bytes_of, is_white_run, is_comment, ends_block, is_line, begins_comment, begins_skipped, Longest, Stands}
+use Rattle.cc_lex.specs.Pieces.{Piece, white, comment, line, token, bytes_of, is_white_run, is_comment, ends_block, is_line, begins_comment, begins_skipped, Longest, IsInPlace}
 use Rattle.cc_lex.specs.Faults.{NoFront, Faulty, stray, open_comment, open_constant, inside, hash, begins_splice, NotAfter}
 use Rattle.cc_lex.specs.Reading.{run, comment_len, token_len, judged, unread, next}
-use Rattle.cc_lex.proofs.Cases.{cases, and_true}
 use Rattle.cc_lex.proofs.Measured.{Measures}
 use Rattle.cc_lex.proofs.Fronts.{token_measures, token_some, token_first}
 use Rattle.cc_lex.proofs.PieceLemmas.{white_measures, line_measures, comment_measures, one_length, one_front, longest_of, take_drop, drop_front}
@@ -15,19 +14,19 @@ use Rattle.cc_lex.proofs.FaultLemmas.{faults_ascending}
 
 white_first : (w r : List ℕ) → is_white_run w ≡ true → in_white 0 (first (w ++ r)) ≡ true
 white_first [] r e = absurd cc
-white_first (b ∷ v) r e = let p = and_true (in_white 0 b) (chain in_white b v) e in p.0
+white_first (b ∷ v) r e = let p = and_parts (in_white 0 b) (chain in_white b v) e in p.0
 
 comment_first : (w r : List ℕ) → is_comment w ≡ true → (in_white 0 (first (w ++ r)) ≡ false) × (begins_comment (w ++ r) ≡ true) × (0 < length w)
 comment_first [] r e = absurd cc
 comment_first (a ∷ []) r e = absurd cc
 comment_first (a ∷ b ∷ z) r e =
-    let p = and_true (eqb a 47) _ e in
+    let p = and_parts (eqb a 47) _ e in
     let is : a ≡ 47 = eqb-true a 47 p.0 in (
       subst (λ c. in_white 0 c ≡ false) (sym is) refl,
       and_from (eqb a 47) _ p.0 (
           elim (or_cases (eqb b 42 && ends_block z) (eqb b 47 && chain in_line 0 z) p.1) [
-            | inl x ↦ let q = and_true (eqb b 42) (ends_block z) x in rw q.0 refl
-            | inr y ↦ let q = and_true (eqb b 47) (chain in_line 0 z) y in subst (λ c. (eqb c 42 || eqb c 47) ≡ true) (sym (eqb-true b 47 q.0)) refl
+            | inl x ↦ let q = and_parts (eqb b 42) (ends_block z) x in rw q.0 refl
+            | inr y ↦ let q = and_parts (eqb b 47) (chain in_line 0 z) y in subst (λ c. (eqb c 42 || eqb c 47) ≡ true) (sym (eqb-true b 47 q.0)) refl
           ]
           ),
       omega arith,
@@ -39,13 +38,13 @@ some_not_zero n h = ne_eqb n 0 (λ e. omega arith)
 hash_first : (text : List ℕ) → begins_skipped text ≡ true → (in_white 0 (first text) ≡ false) × (begins_comment text ≡ false) × (eqb (first text) 35 ≡ true)
 hash_first [] e = absurd cc
 hash_first (b ∷ z) e =
-    let p = and_true (eqb b 35) _ e in
+    let p = and_parts (eqb b 35) _ e in
     let is : b ≡ 35 = eqb-true b 35 p.0 in
     subst (λ c. (in_white 0 c ≡ false) × (begins_comment (c ∷ z) ≡ false) × (eqb c 35 ≡ true)) (sym is) (refl, refl, refl)
 
 -- ---- What stands there is read
 
-pub next_again : (starts : Bool) (p : Piece) (r : List ℕ) → Stands starts p r → next starts (bytes_of p ++ r) ≡ Ok p
+pub next_again : (starts : Bool) (p : Piece) (r : List ℕ) → IsInPlace starts p r → next starts (bytes_of p ++ r) ≡ Ok p
 next_again starts (white w) r s =
     let a = white_first w r s.passes_itself in
     let t = one_front is_white_run w r _ s (white_measures (w ++ r)) in
@@ -75,7 +74,7 @@ next_again starts (token w k) r s =
 pub record Begins (starts : Bool) (text : List ℕ) (p : Piece) : Type 0 where
   pub rest : List ℕ
   pub is : text ≡ bytes_of p ++ rest
-  pub right : Stands starts p rest
+  pub right : IsInPlace starts p rest
   pub some : 0 < length (bytes_of p)
 
 -- the front of this length, with what follows it
@@ -115,17 +114,17 @@ judged_ok w (f ∷ fs) p e = absurd cc
 
 pub next_stands : (starts : Bool) (text : List ℕ) (p : Piece) → next starts text ≡ Ok p → Begins starts text p
 next_stands starts text p e =
-    elim (cases (in_white 0 (first text))) [
+    elim (cases_Bool (in_white 0 (first text))) [
       | inl a ↦
           let n = run in_white 0 text in
           let is : white (take n text) ≡ p = ok_is _ _ (rw a at e) in
           let some : 0 < n = white_some text a in
           subst (λ q. Begins starts text q) is (record { rest = drop n text; is = take_drop n text; right = front is_white_run n text (white_measures text) some; some = front_some is_white_run n text (white_measures text) some })
       | inr a ↦
-          elim (cases (begins_comment text)) [
+          elim (cases_Bool (begins_comment text)) [
             | inl b ↦
                 let n = comment_len text in
-                elim (cases (eqb (comment_len text) 0)) [
+                elim (cases_Bool (eqb (comment_len text) 0)) [
                   | inl c ↦ let no : piece_err (0, 2) ≡ Ok p = rw (a, b, c) at e in absurd cc
                   | inr c ↦
                       let is : comment (take n text) ≡ p = ok_is _ _ (rw (a, b, c) at e) in
@@ -133,20 +132,20 @@ next_stands starts text p e =
                       subst (λ q. Begins starts text q) is (record { rest = drop n text; is = take_drop n text; right = front is_comment n text (comment_measures text) some; some = front_some is_comment n text (comment_measures text) some })
                 ]
             | inr b ↦
-                elim (cases (eqb (first text) 35)) [
+                elim (cases_Bool (eqb (first text) 35)) [
                   | inl c ↦
                       let n = run in_line 0 text in
-                      elim (cases (starts && begins_skipped text)) [
+                      elim (cases_Bool (starts && begins_skipped text)) [
                         | inl d ↦
                             let is : line (take n text) ≡ p = ok_is _ _ (rw (a, b, d, c) at e) in
                             let some : 0 < n = hash_some text c in
-                            let g = and_true starts (begins_skipped text) d in
+                            let g = and_parts starts (begins_skipped text) d in
                             subst (λ q. Begins starts text q) is (record { rest = drop n text; is = take_drop n text; right = (front is_line n text (line_measures text) some, g.0, subst (λ t. begins_skipped t ≡ true) (take_drop n text) g.1); some = front_some is_line n text (line_measures text) some })
                         | inr d ↦ let no : piece_err (0, 9) ≡ Ok p = rw (a, b, d, c) at e in absurd cc
                       ]
                   | inr c ↦
                       let n = token_len text in
-                      elim (cases (eqb (token_len text) 0)) [
+                      elim (cases_Bool (eqb (token_len text) 0)) [
                         | inl d ↦ let no : piece_err (0, unread text) ≡ Ok p = rw (a, b, c, d) at e in absurd cc
                         | inr d ↦
                             let some : 0 < n = not_zero n d in
@@ -166,7 +165,7 @@ none passes n text m e = λ k in_text good. omega (arith, m.most k in_text good)
 no_white_front : (text : List ℕ) → in_white 0 (first text) ≡ false → NoFront is_white_run text
 no_white_front text e zero h good = refl
 no_white_front [] e (suc m) h good = absurd (omega arith)
-no_white_front (b ∷ z) e (suc m) h good = let p = and_true (in_white 0 b) (chain in_white b (take m z)) good in absurd cc
+no_white_front (b ∷ z) e (suc m) h good = let p = and_parts (in_white 0 b) (chain in_white b (take m z)) good in absurd cc
 
 head_contained : (g : ℕ × ℕ) (gs : List (ℕ × ℕ)) → Contains (g ∷ gs) g
 head_contained g gs = (0, omega arith, refl)
@@ -200,36 +199,36 @@ pub data Found (starts : Bool) (text : List ℕ) (f : ℕ × ℕ) : Type 0 where
 
 pub next_fault : (starts : Bool) (text : List ℕ) (f : ℕ × ℕ) → 0 < length text → next starts text ≡ Err f → Found starts text f
 next_fault starts text f some e =
-    elim (cases (in_white 0 (first text))) [
+    elim (cases_Bool (in_white 0 (first text))) [
       | inl a ↦ let no : piece_ok (white (take (run in_white 0 text) text)) ≡ Err f = rw a at e in absurd cc
       | inr a ↦
-          elim (cases (begins_comment text)) [
+          elim (cases_Bool (begins_comment text)) [
             | inl b ↦
-                elim (cases (eqb (comment_len text) 0)) [
+                elim (cases_Bool (eqb (comment_len text) 0)) [
                   | inl c ↦
                       let is : (0, 2) ≡ f = err_is (0, 2) f (rw (a, b, c) at e) in
                       begun (subst (λ (g : ℕ × ℕ). Faulty starts text g.0 g.1) is (open_comment refl refl b (none is_comment _ text (comment_measures text) (eqb-true _ _ c))))
                   | inr c ↦ let no : piece_ok (comment (take (comment_len text) text)) ≡ Err f = rw (a, b, c) at e in absurd cc
                 ]
             | inr b ↦
-                elim (cases (eqb (first text) 35)) [
+                elim (cases_Bool (eqb (first text) 35)) [
                   | inl c ↦
-                      elim (cases (starts && begins_skipped text)) [
+                      elim (cases_Bool (starts && begins_skipped text)) [
                         | inl d ↦ let no : piece_ok (line (take (run in_line 0 text) text)) ≡ Err f = rw (a, b, d, c) at e in absurd cc
                         | inr d ↦
                             let is : (0, 9) ≡ f = err_is (0, 9) f (rw (a, b, d, c) at e) in
                             begun (subst (λ (g : ℕ × ℕ). Faulty starts text g.0 g.1) is (hash refl refl (eqb-true _ _ c) d))
                       ]
                   | inr c ↦
-                      elim (cases (eqb (token_len text) 0)) [
+                      elim (cases_Bool (eqb (token_len text) 0)) [
                         | inl d ↦
                             let n = none is_token _ text (token_measures text) (eqb-true _ _ d) in
-                            elim (cases (is_quote (first text))) [
+                            elim (cases_Bool (is_quote (first text))) [
                               | inl q ↦
                                   let is : (0, 3) ≡ f = err_is (0, 3) f (quote_read text f q (rw (a, b, c, d) at e)) in
                                   begun (subst (λ (g : ℕ × ℕ). Faulty starts text g.0 g.1) is (open_constant refl refl q n))
                               | inr q ↦
-                                  elim (cases (begins_splice text)) [
+                                  elim (cases_Bool (begins_splice text)) [
                                     | inl s ↦
                                         let is : (0, 8) ≡ f = err_is (0, 8) f (splice_read text f q s (rw (a, b, c, d) at e)) in
                                         spliced (sym is) s
@@ -265,14 +264,14 @@ zero_of passes (suc n) text m none_is = absurd (let e : suc n ≡ 0 = none_is (s
 no_white_of : (text : List ℕ) → NoFront is_white_run text → in_white 0 (first text) ≡ false
 no_white_of [] none_is = refl
 no_white_of (b ∷ z) none_is =
-    elim (cases (is_white b)) [
+    elim (cases_Bool (is_white b)) [
       | inl w ↦ absurd (let e : 1 ≡ 0 = none_is 1 (omega arith) (and_from (is_white b) true w refl) in omega arith)
       | inr w ↦ w
     ]
 
 slash_first : (text : List ℕ) → begins_comment text ≡ true → (in_white 0 (first text) ≡ false) × (0 < length text)
 slash_first [] e = absurd cc
-slash_first (b ∷ z) e = let p = and_true (eqb b 47) _ e in (subst (λ c. in_white 0 c ≡ false) (sym (eqb-true b 47 p.0)) refl, omega arith)
+slash_first (b ∷ z) e = let p = and_parts (eqb b 47) _ e in (subst (λ c. in_white 0 c ≡ false) (sym (eqb-true b 47 p.0)) refl, omega arith)
 
 quote_byte : (b : ℕ) (z : List ℕ) → is_quote b ≡ true → (in_white 0 b ≡ false) × (begins_comment (b ∷ z) ≡ false) × (eqb b 35 ≡ false)
 quote_byte b z e =
@@ -326,7 +325,7 @@ fault_least starts text at rule (inside w r is l b c) =
     let j = judged_least w (first r) (faults w (first r)) (at, rule) refl c in
     subst (λ t. Least starts t at rule) (sym is) (record { fault = j.0; read = rw (a.no_white, b', a.no_hash, z, t, u) j.1; least = j.2; some = omega (arith, length-append w r) })
 
-pub piece_some : (starts : Bool) (p : Piece) (r : List ℕ) → Stands starts p r → 0 < length (bytes_of p)
+pub piece_some : (starts : Bool) (p : Piece) (r : List ℕ) → IsInPlace starts p r → 0 < length (bytes_of p)
 piece_some starts (white []) r s = absurd (let e : false ≡ true = s.passes_itself in cc)
 piece_some starts (white (b ∷ z)) r s = omega arith
 piece_some starts (comment w) r s = (comment_first w r s.passes_itself).2

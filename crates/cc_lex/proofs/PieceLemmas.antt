@@ -1,10 +1,9 @@
 -- Comments, white runs and lines.
 use Rattle.std.proofs.Common.{◌≡◌, ℕ, zero, suc, ◌+◌, ◌≤◌, ◌<◌, Bool, true, ◌&&◌, eqb, List, [], ◌∷◌, ◌++◌, length, take, drop, length-take, length-append, refl, sym, ap, ◌∙◌, subst, arith, ◌⊎◌, inl, inr}
-use Rattle.std.proofs.lemmas.Bool.{eqb-true, or_cases, and_from}
+use Rattle.std.proofs.lemmas.Bool.{and_from, and_parts, cases_Bool, eqb-true, or_cases, or_left, or_right}
 use Rattle.cc_lex.specs.Bytes.{in_white, in_line, chain}
 use Rattle.cc_lex.specs.Pieces.{is_white_run, is_comment, ends_block, is_line, Longest}
 use Rattle.cc_lex.specs.Reading.{run, block_len, plus, comment_len}
-use Rattle.cc_lex.proofs.Cases.{cases, and_true, or_left, or_right}
 use Rattle.cc_lex.proofs.Measured.{Measures, run_most, run_chain, run_within, block_most, block_found, block_within, block_some}
 
 white_most : (text : List ℕ) (m : ℕ) → m ≤ length text → is_white_run (take m text) ≡ true → m ≤ run in_white 0 text
@@ -52,13 +51,13 @@ comment_most (a ∷ []) (suc zero) h e = absurd cc
 comment_most (a ∷ []) (suc (suc m)) h e = absurd (omega arith)
 comment_most (a ∷ b ∷ z) (suc zero) h e = absurd cc
 comment_most (a ∷ b ∷ z) (suc (suc m)) h e =
-    let p = and_true (eqb a 47) _ e in
+    let p = and_parts (eqb a 47) _ e in
     elim (or_cases (eqb b 42 && ends_block (take m z)) (eqb b 47 && chain in_line 0 (take m z)) p.1) [
       | inl x ↦
-          let q = and_true (eqb b 42) (ends_block (take m z)) x in
+          let q = and_parts (eqb b 42) (ends_block (take m z)) x in
           rw (p.0, q.0) (plus_above m (block_len z) (block_some z m q.1) (block_most z m (omega arith) q.1))
       | inr y ↦
-          let q = and_true (eqb b 47) (chain in_line 0 (take m z)) y in
+          let q = and_parts (eqb b 47) (chain in_line 0 (take m z)) y in
           let is : b ≡ 47 = eqb-true b 47 q.0 in
           subst (λ c. suc (suc m) ≤ comment_len (a ∷ c ∷ z)) (sym is) (rw p.0 (omega (arith, run_most in_line 0 z m (omega arith) q.1)))
     ]
@@ -71,10 +70,10 @@ comment_at : (text : List ℕ) (n : ℕ) → comment_len text ≡ n → 0 < n �
 comment_at [] n e h = absurd (omega arith)
 comment_at (a ∷ []) n e h = absurd (omega arith)
 comment_at (a ∷ b ∷ z) n e h =
-    elim (cases (eqb a 47)) [
+    elim (cases_Bool (eqb a 47)) [
       | inr other ↦ absurd (let k : 0 ≡ n = rw other at e in omega arith)
       | inl slash ↦
-          elim (cases (eqb b 42)) [
+          elim (cases_Bool (eqb b 42)) [
             | inl star ↦
                 let k : plus 2 (block_len z) ≡ n = rw (slash, star) at e in
                 elim (plus_cases (block_len z)) [
@@ -84,7 +83,7 @@ comment_at (a ∷ b ∷ z) n e h =
                       (and_from (eqb a 47) _ slash (or_left _ _ (and_from (eqb b 42) _ star (block_found z some.0))))
                 ]
             | inr no_star ↦
-                elim (cases (eqb b 47)) [
+                elim (cases_Bool (eqb b 47)) [
                   | inr other ↦ absurd (let k : 0 ≡ n = rw (slash, no_star, other) at e in omega arith)
                   | inl twice ↦
                       let k : 2 + run in_line 0 z ≡ n = rw (slash, no_star, twice) at e in
@@ -99,13 +98,13 @@ comment_within : (text : List ℕ) → comment_len text ≤ length text
 comment_within [] = omega arith
 comment_within (a ∷ []) = omega arith
 comment_within (a ∷ b ∷ z) =
-    elim (cases (eqb a 47)) [
+    elim (cases_Bool (eqb a 47)) [
       | inr other ↦ rw other (omega arith)
       | inl slash ↦
-          elim (cases (eqb b 42)) [
+          elim (cases_Bool (eqb b 42)) [
             | inl star ↦ rw (slash, star) (elim (plus_cases (block_len z)) [ inl none ↦ omega arith | inr some ↦ omega (arith, block_within z) ])
             | inr no_star ↦
-                elim (cases (eqb b 47)) [ inr other ↦ rw (slash, no_star, other) (omega arith) | inl twice ↦ rw (slash, no_star, twice) (omega (arith, run_within in_line 0 z)) ]
+                elim (cases_Bool (eqb b 47)) [ inr other ↦ rw (slash, no_star, other) (omega arith) | inl twice ↦ rw (slash, no_star, twice) (omega (arith, run_within in_line 0 z)) ]
           ]
     ]
 

@@ -3,7 +3,7 @@ use Rattle.std.proofs.Common.{◌≡◌, ℕ, Bool, true, List, [], ◌∷◌, �
 use Rattle.cc_base.specs.declared.place.Spot.{Spot}
 use Rattle.cc_base.specs.Spots.{start, spot_behind}
 use Rattle.cc_lex.specs.declared.token.Token.{Token}
-use Rattle.cc_lex.specs.Pieces.{Piece, white, comment, line, token, spell, Stands, Cuts, starts_after}
+use Rattle.cc_lex.specs.Pieces.{Piece, white, comment, line, token, spell, IsInPlace, Cuts, starts_after}
 use Rattle.cc_lex.specs.Cut.{Cut, IsFaultless, StandsAt, tokens_from}
 use Rattle.cc_lex.specs.Faults.{IsClean}
 use Rattle.cc_lex.proofs.PieceLemmas.{take_front, drop_front}
@@ -20,7 +20,7 @@ pub cut_exists : (bytes : List ℕ) → IsFaultless bytes → (tokens : List Tok
 cut_exists bytes f = let r = pieces_exist bytes f in (tokens_from start r.0, record { faultless = f; pieces = r.0; cuts = r.1; tokens_are = refl })
 
 -- The token of a piece that stands behind `done`.
-stands_here : (done w r : List ℕ) (t : Token) → Stands true (token w t.kind) r → t.spot ≡ spot_behind start done → StandsAt (done ++ (w ++ r)) (length done) t
+stands_here : (done w r : List ℕ) (t : Token) → IsInPlace true (token w t.kind) r → t.spot ≡ spot_behind start done → StandsAt (done ++ (w ++ r)) (length done) t
 stands_here done w r t s e = record {
   spelling = w;
   rest = r;
@@ -47,7 +47,7 @@ placed starts (token w k ∷ ps) done text s t (z, is, right, c) e h =
       | inl same ↦
           let k_is : k ≡ t.kind = ap (λ (u : Token). u.kind) same in
           let s_is : s ≡ t.spot = ap (λ (u : Token). u.spot) same in
-          (length done, subst (λ u. StandsAt (done ++ u) (length done) t) (sym is) (stands_here done w z t (subst (λ j. Stands true (token w j) z) k_is right) (sym s_is ∙ e)))
+          (length done, subst (λ u. StandsAt (done ++ u) (length done) t) (sym is) (stands_here done w z t (subst (λ j. IsInPlace true (token w j) z) k_is right) (sym s_is ∙ e)))
       | inr later ↦ moved done w z text t is (placed (starts_after starts w) ps (done ++ w) z (spot_behind s w) t c (spot_moved done w s e) later)
     ]
 

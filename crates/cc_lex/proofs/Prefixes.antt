@@ -1,12 +1,11 @@
 -- The pieces at the front of a text are right when what follows is taken away.
 use Rattle.std.proofs.Common.{◌≡◌, ℕ, zero, suc, ◌≤◌, ◌<◌, Bool, true, false, not, ◌&&◌, ◌||◌, eqb, List, [], ◌∷◌, ◌++◌, length, take, drop, length-append, append_assoc, refl, sym, ap, ◌∙◌, subst, arith, inl, inr}
-use Rattle.std.proofs.lemmas.Bool.{eqb-true, and_from}
+use Rattle.std.proofs.lemmas.Bool.{and_from, and_parts, cases_Bool, eqb-true, not-true}
 use Rattle.std.proofs.lemmas.List.{take-append-le}
 use Rattle.std.specs.List.{list_all}
 use Rattle.cc_lex.specs.Bytes.{first, is_blank, is_digit, is_quote, in_name, in_line, chain}
 use Rattle.cc_lex.specs.Meanings.{is_prefix, faults}
-use Rattle.cc_lex.specs.Pieces.{Piece, white, comment, line, token, bytes_of, spell, is_line, begins_comment, skip_blanks, begins, begins_word, is_directive, begins_skipped, Longest, Stands, Cuts, starts_after}
-use Rattle.cc_lex.proofs.Cases.{cases, and_true, not_true}
+use Rattle.cc_lex.specs.Pieces.{Piece, white, comment, line, token, bytes_of, spell, is_line, begins_comment, skip_blanks, begins, begins_word, is_directive, begins_skipped, Longest, IsInPlace, Cuts, starts_after}
 use Rattle.cc_lex.proofs.Tables.{begins_within}
 use Rattle.cc_lex.proofs.Fronts.{token_some}
 use Rattle.cc_lex.proofs.Whole.{cuts_spell}
@@ -33,7 +32,7 @@ comment_less (b ∷ c ∷ w) a r h e = e
 faults_end : (w : List ℕ) (k : ℕ) → faults w k ≡ [] → faults w 0 ≡ []
 unfolding faults
 faults_end w k e =
-    elim (cases (is_prefix w && is_quote k)) [
+    elim (cases_Bool (is_prefix w && is_quote k)) [
       | inl o ↦ absurd (let no : (0, 9) ∷ [] ≡ [] = rw o at e in cc)
       | inr o ↦ rw (and_no (is_prefix w)) (rw o at e)
     ]
@@ -67,11 +66,11 @@ begins_ended : (word u x : List ℕ) → HasNoFeed word → Ends x → begins wo
 begins_ended [] u x w n = refl
 begins_ended (a ∷ y) [] [] w n = refl
 begins_ended (a ∷ y) [] (b ∷ z) w n =
-    let p = and_true (not (eqb a 10)) (list_all (λ b. not (eqb b 10)) y) w in
-    let other : eqb a 10 ≡ false = not_true _ p.0 in
+    let p = and_parts (not (eqb a 10)) (list_all (λ b. not (eqb b 10)) y) w in
+    let other : eqb a 10 ≡ false = not-true _ p.0 in
     subst (λ k. (eqb a k && begins y z) ≡ false) (sym n) (rw other refl)
 begins_ended (a ∷ y) (b ∷ u) x w n =
-    let p = and_true (not (eqb a 10)) (list_all (λ b. not (eqb b 10)) y) w in
+    let p = and_parts (not (eqb a 10)) (list_all (λ b. not (eqb b 10)) y) w in
     ap (λ v. eqb a b && v) (begins_ended y u x p.1 n)
 
 drop_within : (n : ℕ) (u x : List ℕ) → n ≤ length u → drop n (u ++ x) ≡ drop n u ++ x
@@ -82,7 +81,7 @@ drop_within (suc n) (b ∷ u) x h = drop_within n u x (omega arith)
 word_ended : (word u x : List ℕ) → HasNoFeed word → Ends x → begins_word word (u ++ x) ≡ begins_word word u
 word_ended word u x w n =
     let same : begins word (u ++ x) ≡ begins word u = begins_ended word u x w n in
-    elim (cases (begins word u)) [
+    elim (cases_Bool (begins word u)) [
       | inr f ↦ rw (same, f) refl
       | inl f ↦
           let next : in_name 0 (first (drop (length word) (u ++ x))) ≡ in_name 0 (first (drop (length word) u)) =
@@ -104,7 +103,7 @@ directive_ended u x n =
 blanks_ended : (v x : List ℕ) → Ends x → is_directive (skip_blanks (v ++ x)) ≡ is_directive (skip_blanks v)
 blanks_ended [] [] n = refl
 blanks_ended [] (b ∷ z) n = subst (λ k. is_directive (skip_blanks (k ∷ z)) ≡ false) (sym n) (directive_ended [] (10 ∷ z) refl)
-blanks_ended (b ∷ v) x n = elim (cases (is_blank b)) [ inl e ↦ rw e (blanks_ended v x n) | inr e ↦ rw e (directive_ended (b ∷ v) x n) ]
+blanks_ended (b ∷ v) x n = elim (cases_Bool (is_blank b)) [ inl e ↦ rw e (blanks_ended v x n) | inr e ↦ rw e (directive_ended (b ∷ v) x n) ]
 
 skipped_ended : (w x : List ℕ) → 0 < length w → Ends x → begins_skipped (w ++ x) ≡ begins_skipped w
 skipped_ended [] x h n = absurd (omega arith)
@@ -112,7 +111,7 @@ skipped_ended (b ∷ v) x h n = ap (λ d. eqb b 35 && d) (blanks_ended v x n)
 
 chain_more : (k c : ℕ) (v : List ℕ) → chain in_line k v ≡ true → eqb c 10 ≡ false → chain in_line k (v ++ c ∷ []) ≡ true
 chain_more k c [] e f = rw f refl
-chain_more k c (b ∷ v) e f = let p = and_true (in_line k b) (chain in_line b v) e in and_from _ _ p.0 (chain_more b c v p.1 f)
+chain_more k c (b ∷ v) e f = let p = and_parts (in_line k b) (chain in_line b v) e in and_from _ _ p.0 (chain_more b c v p.1 f)
 
 line_more : (w : List ℕ) (c : ℕ) → is_line w ≡ true → eqb c 10 ≡ false → is_line (w ++ c ∷ []) ≡ true
 line_more [] c e f = absurd cc
@@ -125,7 +124,7 @@ take_one (b ∷ w) y c = ap (λ t. b ∷ t) (take_one w y c)
 line_ends : (w x : List ℕ) → Longest is_line w (w ++ x) → Ends x
 line_ends w [] l = tt
 line_ends w (c ∷ y) l =
-    elim (cases (eqb c 10)) [
+    elim (cases_Bool (eqb c 10)) [
       | inl e ↦ eqb-true c 10 e
       | inr e ↦
           let longer : is_line (take (suc (length w)) (w ++ c ∷ y)) ≡ true = rw (take_one w y c) (line_more w c l.passes_itself e) in
@@ -144,7 +143,7 @@ skipped_less w a r l e =
 
 -- ---- Pieces
 
-stands_less : (starts : Bool) (p : Piece) (a r : List ℕ) → Stands starts p (a ++ r) → Stands starts p a
+stands_less : (starts : Bool) (p : Piece) (a r : List ℕ) → IsInPlace starts p (a ++ r) → IsInPlace starts p a
 stands_less starts (white w) a r s = longest_less _ w a r s
 stands_less starts (comment w) a r s = longest_less _ w a r s
 stands_less starts (line w) a r s = (longest_less is_line w a r s.0, s.1, skipped_less w a r s.0 s.2)
@@ -155,4 +154,4 @@ pub cuts_alone : (starts : Bool) (ps : List Piece) (text r : List ℕ) → Cuts 
 cuts_alone starts [] text r c = refl
 cuts_alone starts (p ∷ ps) text r (z, e, s, c) =
     let is : z ≡ spell ps ++ r = cuts_spell (starts_after starts (bytes_of p)) ps z r c in
-    (spell ps, refl, stands_less starts p (spell ps) r (subst (λ t. Stands starts p t) is s), cuts_alone (starts_after starts (bytes_of p)) ps z r c)
+    (spell ps, refl, stands_less starts p (spell ps) r (subst (λ t. IsInPlace starts p t) is s), cuts_alone (starts_after starts (bytes_of p)) ps z r c)

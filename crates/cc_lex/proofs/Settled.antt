@@ -1,6 +1,6 @@
 -- The answer, from what was read and the first place that is faulty everywhere.
 use Rattle.std.proofs.Common.{◌≡◌, ℕ, ◌≤◌, ◌<◌, ◌+◌, true, false, ◌||◌, ◌&&◌, eqb, ltb, leb, List, drop, Some, None, Result, Ok, Err, sym, subst, arith, inl, inr}
-use Rattle.std.proofs.lemmas.Bool.{ltb-true, ltb-false, or_cases}
+use Rattle.std.proofs.lemmas.Bool.{cases_Bool, ltb-false, ltb-true, or_cases}
 use Rattle.std.proofs.lemmas.Bool.Decides.{nat_tests}
 use Rattle.std.specs.Result.{IfErr}
 use Rattle.cc_lex.specs.declared.token.Token.{Token}
@@ -9,7 +9,6 @@ use Rattle.cc_lex.specs.declared.token.LexFault.TheVariants as fault
 use Rattle.cc_lex.specs.Faults.{everywhere, IsClean, NotAfter, IsLeastFault}
 use Rattle.cc_lex.specs.Cut.{Cut, IsRefused}
 use Rattle.cc_lex.specs.Reading.{IsAll, HasStopped, IsFirstAnywhere, sooner}
-use Rattle.cc_lex.proofs.Cases.{cases}
 use Rattle.cc_lex.proofs.Whole.{cut_sound, stopped_is, anywhere_is, BeforeAll}
 
 pub all_cut : (bytes : List ℕ) (ts : List Token) → IsClean bytes → IsAll bytes ts → Cut bytes ts
@@ -25,7 +24,7 @@ some_is a b e = cc
 -- of two rules at one place, which are one
 pub first_before : (bytes : List ℕ) (g : ℕ × ℕ) → IsFirstAnywhere bytes g → BeforeAll bytes g
 first_before bytes g f o rule h e =
-    elim (cases (ltb g.0 o)) [
+    elim (cases_Bool (ltb g.0 o)) [
       | inl l ↦ inl (ltb-true _ _ l)
       | inr l ↦
           let le : g.0 ≤ o = f.first_there o rule h e in
@@ -51,7 +50,7 @@ no_sooner at first offset rule o r (inl h) e = inl (later at first offset rule o
     later : (at first offset rule o : ℕ) → at < o → (ltb at offset || (eqb at offset && leb first rule)) ≡ false → offset < o
     later at first offset rule o h e = grind (arith, nat_tests)
 no_sooner at first offset rule o r (inr h) e =
-    elim (cases (ltb offset o)) [
+    elim (cases_Bool (ltb offset o)) [
       | inl l ↦ inl (ltb-true _ _ l)
       | inr l ↦ inr (there at first offset rule o h.0 l e, less at first offset rule o r h.0 h.1 l e)
     ]
@@ -65,7 +64,7 @@ no_sooner at first offset rule o r (inr h) e =
 pub settled : (bytes : List ℕ) (g : ℕ × ℕ) (e : LexFault) → IsFirstAnywhere bytes g → HasStopped bytes e → IsRefused bytes (sooner g e)
 settled bytes g fault.Memory f s = tt
 settled bytes g (fault.At offset rule) f s =
-    elim (cases (ltb g.0 offset || (eqb g.0 offset && leb g.1 rule))) [
+    elim (cases_Bool (ltb g.0 offset || (eqb g.0 offset && leb g.1 rule))) [
       | inl y ↦ rw y (anywhere_is bytes g f.within f.there (first_before bytes g f) (inr ((offset, rule), s, is_sooner g.0 g.1 offset rule y)))
       | inr n ↦ rw n (stopped_is bytes (offset, rule) s (λ o r h x. no_sooner g.0 g.1 offset rule o r (first_before bytes g f o r h x) n))
     ]
@@ -73,7 +72,7 @@ settled bytes g (fault.At offset rule) f s =
 -- nothing is faulty everywhere below this place, and at it neither
 pub one_more : (bytes t : List ℕ) (at : ℕ) → t ≡ drop at bytes → None ≡ everywhere t → ((o rule : ℕ) → o < at → everywhere (drop o bytes) ≡ Some rule → ⊥) → (o rule : ℕ) → o < at + 1 → everywhere (drop o bytes) ≡ Some rule → ⊥
 one_more bytes t at a b below o rule h e =
-    elim (cases (ltb o at)) [
+    elim (cases_Bool (ltb o at)) [
       | inl l ↦ below o rule (ltb-true _ _ l) e
       | inr l ↦
           let same : o ≡ at = omega (arith, ltb-false _ _ l) in

@@ -1,14 +1,13 @@
 -- Which types a value fits.
 use Rattle.std.proofs.Common.{◌≡◌, ℕ, ◌≤◌, ◌<◌, ◌^◌, false, leb, List, [], ◌∷◌, ◌++◌, None, pos, refl, sym, ◌∙◌, arith, inl, inr, ◌&&◌}
 use Rattle.std.specs.Option.{option_or}
-use Rattle.std.proofs.lemmas.Bool.{leb-true}
+use Rattle.std.proofs.lemmas.Bool.{cases_Bool, leb-true}
 use Rattle.std.proofs.lemmas.Bool.Decides.{nat_tests}
 use Rattle.std.proofs.lemmas.List.Folds.{find-append}
 use Rattle.cc_arith.specs.declared.kind.IntKind.{IntKind}
 use Rattle.cc_arith.specs.declared.kind.IntKind.TheVariants as kind
 use Rattle.cc_arith.specs.Kinds.{is_in_range}
 use Rattle.cc_lex.specs.Numbers.{first_fit}
-use Rattle.cc_lex.proofs.Cases.{cases}
 
 -- the greatest value of the kind, as a number
 abbrev pub top : IntKind → ℕ
@@ -59,7 +58,7 @@ top_small kind.ULLong = omega arith
 too_large : (k : IntKind) (n : ℕ) → 2 ^ 64 ≤ n → is_in_range k (pos n) ≡ false
 too_large k n h =
     let t = fits_top k n in
-    elim (cases (leb n (top k))) [
+    elim (cases_Bool (leb n (top k))) [
       | inl l ↦ absurd (omega (arith, leb-true _ _ l, top_small k))
       | inr l ↦ sym t ∙ l
     ]

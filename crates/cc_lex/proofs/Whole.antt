@@ -1,12 +1,11 @@
 -- There is at most one cut, and the fault at which reading stops is the least.
 use Rattle.std.proofs.Common.{◌≡◌, ℕ, zero, suc, ◌+◌, ◌<◌, Bool, true, false, eqb, List, [], ◌∷◌, ◌++◌, length, drop, length-append, append_assoc, append-nil, ◌&&◌, ◌||◌, Option, Some, None, Ok, Err, refl, sym, ap, ◌∙◌, subst, arith, ◌⊎◌, inl, inr}
-use Rattle.std.proofs.lemmas.Bool.{eqb-true}
+use Rattle.std.proofs.lemmas.Bool.{and_parts, cases_Bool, eqb-true}
 use Rattle.cc_lex.specs.Bytes.{first, is_blank}
-use Rattle.cc_lex.specs.Pieces.{Piece, bytes_of, spell, Stands, Cuts, starts_after}
+use Rattle.cc_lex.specs.Pieces.{Piece, bytes_of, spell, IsInPlace, Cuts, starts_after}
 use Rattle.cc_lex.specs.Faults.{begins_splice, begins_trigraph, everywhere, IsClean, Faulty, LexFaulty, anywhere, piece, IsLeastFault, NotAfter}
 use Rattle.cc_lex.specs.Cut.{IsFaultless}
 use Rattle.cc_lex.specs.Reading.{next, Stopped}
-use Rattle.cc_lex.proofs.Cases.{cases, and_true}
 use Rattle.cc_lex.proofs.PieceLemmas.{drop_front}
 use Rattle.cc_lex.proofs.Next.{Found, begun, spliced, err_is, next_again, next_fault, fault_least, piece_some}
 
@@ -28,11 +27,11 @@ spell_snoc [] p = simp append-nil
 spell_snoc (q ∷ ps) p = ap (λ t. bytes_of q ++ t) (spell_snoc ps p) ∙ sym (append_assoc (bytes_of q) (spell ps) (bytes_of p))
 
 -- one more piece
-pub cuts_snoc : (starts : Bool) (ps : List Piece) (text : List ℕ) (p : Piece) (r : List ℕ) → Cuts starts ps text (bytes_of p ++ r) → Stands (starts_after starts (spell ps)) p r → Cuts starts (ps ++ p ∷ []) text r
+pub cuts_snoc : (starts : Bool) (ps : List Piece) (text : List ℕ) (p : Piece) (r : List ℕ) → Cuts starts ps text (bytes_of p ++ r) → IsInPlace (starts_after starts (spell ps)) p r → Cuts starts (ps ++ p ∷ []) text r
 cuts_snoc starts [] text p r c s = (r, c, s, refl)
-cuts_snoc starts (q ∷ ps) text p r (z, e, t, c) s = (z, e, t, cuts_snoc (starts_after starts (bytes_of q)) ps z p r c (subst (λ (b : Bool). Stands b p r) (starts_append starts (bytes_of q) (spell ps)) s))
+cuts_snoc starts (q ∷ ps) text p r (z, e, t, c) s = (z, e, t, cuts_snoc (starts_after starts (bytes_of q)) ps z p r c (subst (λ (b : Bool). IsInPlace b p r) (starts_append starts (bytes_of q) (spell ps)) s))
 
-goes : (starts : Bool) (text : List ℕ) (p : Piece) (z : List ℕ) → text ≡ bytes_of p ++ z → Stands starts p z → Stuck starts text → ⊥
+goes : (starts : Bool) (text : List ℕ) (p : Piece) (z : List ℕ) → text ≡ bytes_of p ++ z → IsInPlace starts p z → Stuck starts text → ⊥
 goes starts text p z e s (end n) = let k : 0 < length (bytes_of p) = piece_some starts p z s in omega (arith, length-append (bytes_of p) z, ap length e, ap length n)
 goes starts text p z e s (fault f n) = let k : next starts (bytes_of p ++ z) ≡ Ok p = next_again starts p z s in let m : next starts (bytes_of p ++ z) ≡ Err f = subst (λ t. next starts t ≡ Err f) e n in cc
 
@@ -82,8 +81,8 @@ splice_front : (text r : List ℕ) → begins_splice text ≡ true → begins_sp
 splice_front [] r e = absurd cc
 splice_front (a ∷ []) r e = absurd (no_front (eqb a 92) e)
 splice_front (a ∷ b ∷ []) r e =
-    let p = and_true (eqb a 92) (eqb b 10 || (eqb b 13 && false)) e in
-    elim (cases (eqb b 10)) [
+    let p = and_parts (eqb a 92) (eqb b 10 || (eqb b 13 && false)) e in
+    elim (cases_Bool (eqb b 10)) [
       | inl f ↦ rw (p.0, f) refl
       | inr f ↦ absurd (no_front (eqb b 13) (rw f at p.1))
     ]
@@ -98,16 +97,16 @@ trigraph_front (a ∷ b ∷ c ∷ z) r e = e
 no_splice : (text r : List ℕ) → begins_trigraph text ≡ true → begins_splice (text ++ r) ≡ false
 no_splice [] r e = absurd cc
 no_splice (a ∷ z) r e =
-    let p = and_true (eqb a 63 && eqb (first z) 63) _ e in
-    let q = and_true (eqb a 63) (eqb (first z) 63) p.0 in
+    let p = and_parts (eqb a 63 && eqb (first z) 63) _ e in
+    let q = and_parts (eqb a 63) (eqb (first z) 63) p.0 in
     subst (λ c. begins_splice (c ∷ (z ++ r)) ≡ false) (sym (eqb-true a 63 q.0)) refl
 
 everywhere_front : (text r : List ℕ) (rule : ℕ) → everywhere text ≡ Some rule → everywhere (text ++ r) ≡ Some rule
 everywhere_front text r rule e =
-    elim (cases (begins_splice text)) [
+    elim (cases_Bool (begins_splice text)) [
       | inl s ↦ let k : Some 8 ≡ Some rule = rw s at e in rw (splice_front text r s) k
       | inr s ↦
-          elim (cases (begins_trigraph text)) [
+          elim (cases_Bool (begins_trigraph text)) [
             | inl t ↦ let k : Some 9 ≡ Some rule = rw (s, t) at e in rw (no_splice text r t, trigraph_front text r t) k
             | inr t ↦ absurd (let no : ◌≡◌ {A = Option ℕ} None (Some rule) = rw (s, t) at e in cc)
           ]

@@ -80,11 +80,11 @@ pub record Longest (passes : List ℕ → Bool) (w text : List ℕ) : Type 0 whe
 -- The piece is right where the text begins with it, and r follows it. `starts` says that only spaces and tabs stand
 -- before it on its line. A skipped line begins with its `#`: the spaces and tabs before are white bytes. No token begins
 -- with `#`, so none begins where a skipped line does.
-abbrev pub Stands : Bool → Piece → List ℕ → Type 0
-Stands starts (white w) r = Longest is_white_run w (w ++ r)
-Stands starts (comment w) r = Longest is_comment w (w ++ r)
-Stands starts (line w) r = Longest is_line w (w ++ r) × (starts ≡ true) × (begins_skipped (w ++ r) ≡ true)
-Stands starts (token w k) r =
+abbrev pub IsInPlace : Bool → Piece → List ℕ → Type 0
+IsInPlace starts (white w) r = Longest is_white_run w (w ++ r)
+IsInPlace starts (comment w) r = Longest is_comment w (w ++ r)
+IsInPlace starts (line w) r = Longest is_line w (w ++ r) × (starts ≡ true) × (begins_skipped (w ++ r) ≡ true)
+IsInPlace starts (token w k) r =
     Longest is_token w (w ++ r) × (begins_comment (w ++ r) ≡ false) × (faults w (first r) ≡ []) × (k ≡ meaning w)
 
 -- whether only spaces and tabs stand on the line so far, behind these bytes
@@ -95,7 +95,7 @@ starts_after starts (b ∷ z) = starts_after (b == 10 || (starts && is_blank b))
 -- The text begins with these pieces, each right at its place, and r follows them.
 abbrev pub Cuts : Bool → List Piece → List ℕ → List ℕ → Type 0
 Cuts starts [] text r = text ≡ r
-Cuts starts (p ∷ ps) text r = (z : List ℕ) × (text ≡ bytes_of p ++ z) × Stands starts p z × Cuts (starts_after starts (bytes_of p)) ps z r
+Cuts starts (p ∷ ps) text r = (z : List ℕ) × (text ≡ bytes_of p ++ z) × IsInPlace starts p z × Cuts (starts_after starts (bytes_of p)) ps z r
 
 -- the bytes of the pieces
 abbrev pub spell : List Piece → List ℕ

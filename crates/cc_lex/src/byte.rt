@@ -2,42 +2,49 @@
 ghost use Rattle.std.specs.Prelude.{◌≡◌, ◌≤◌, take, drop, length};
 ghost use Rattle.cc_lex.specs.Bytes as spec;
 
+/// Whether the byte is a decimal digit.
 pub fn is_digit(b: u8) -> bool
     ensures { result ≡ spec.is_digit b }
 {
     b'0' <= b && b <= b'9'
 }
 
+/// Whether the byte is an octal digit.
 pub fn is_octal_digit(b: u8) -> bool
     ensures { result ≡ spec.is_octal_digit b }
 {
     b'0' <= b && b <= b'7'
 }
 
+/// Whether the byte is a hexadecimal digit, in either case.
 pub fn is_hex_digit(b: u8) -> bool
     ensures { result ≡ spec.is_hex_digit b }
 {
     is_digit(b) || ((b'a' <= b && b <= b'f') || (b'A' <= b && b <= b'F'))
 }
 
+/// Whether the byte is a letter of ASCII or `_`.
 pub fn is_letter(b: u8) -> bool
     ensures { result ≡ spec.is_letter b }
 {
     ((b'a' <= b && b <= b'z') || (b'A' <= b && b <= b'Z')) || b == b'_'
 }
 
+/// Whether the byte is `'` or `"`.
 pub fn is_quote(b: u8) -> bool
     ensures { result ≡ spec.is_quote b }
 {
     b == b'\'' || b == b'"'
 }
 
+/// Whether the byte is white: space, tab, line feed, vertical tab, form feed or carriage return.
 pub fn is_white(b: u8) -> bool
     ensures { result ≡ spec.is_white b }
 {
     b == b' ' || (9 <= b && b <= 13)
 }
 
+/// Whether the byte is a space or a tab.
 pub fn is_blank(b: u8) -> bool
     ensures { result ≡ spec.is_blank b }
 {

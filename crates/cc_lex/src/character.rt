@@ -5,10 +5,11 @@ ghost use Rattle.cc_lex.specs.Reading.{first_fault, pair_of};
 
 use crate::byte::{back, front};
 use crate::number::{count_digits, is_digit_in, small_value};
+use crate::rule::{FAULTY_ESCAPE, NOT_ONE_CHARACTER};
 use crate::step::Fault;
 use std::alloc::{AllocError, Global};
 
-/// The bytes between the quotes.
+/// The bytes between the quotes of a constant or a literal.
 pub fn inner(w: &[u8]) -> &[u8]
     ensures value { result.now ≡ spec.inner w.now }
     ensures within { length result.now ≤ length w.now - 2 }
@@ -16,6 +17,7 @@ pub fn inner(w: &[u8]) -> &[u8]
     front(back(w, 1), w.len().saturating_sub(2))
 }
 
+// The value of an escape of one letter (C17 6.4.4.4), if it is one.
 fn simple_escape(b: u8) -> Option<u8>
     ensures { result ≡ spec.simple_escape b }
 {
@@ -32,6 +34,7 @@ fn simple_escape(b: u8) -> Option<u8>
     }
 }
 
+// The value of the digits of an escape, if it is at most 255.
 fn byte_value(base: u8, digits: &[u8]) -> Option<u8>
     requires { 1 ≤ base }
     ensures { result ≡ spec.byte_value base digits.now }
@@ -48,6 +51,7 @@ fn byte_value(base: u8, digits: &[u8]) -> Option<u8>
     }
 }
 
+// How many octal digits there are, at most three.
 fn octal_count(z: &[u8]) -> usize
     ensures value { result ≡ spec.octal_count z.now }
     ensures within { result ≤ length z.now }
@@ -55,6 +59,7 @@ fn octal_count(z: &[u8]) -> usize
     count_digits(8, front(z, 3))
 }
 
+// How many hexadecimal digits there are.
 fn hex_count(z: &[u8]) -> usize
     ensures value { result ≡ spec.hex_count z.now }
     ensures within { result ≤ length z.now }
@@ -62,7 +67,7 @@ fn hex_count(z: &[u8]) -> usize
     count_digits(16, z)
 }
 
-/// How many bytes belong to the escape behind a backslash.
+// How many bytes belong to the escape behind a backslash.
 fn escape_len(z: &[u8]) -> usize
     requires { length z.now < 2 ^ 63 }
     ensures value { result ≡ spec.escape_len z.now }
@@ -82,7 +87,7 @@ fn escape_len(z: &[u8]) -> usize
     }
 }
 
-/// The value of the escape behind a backslash, if it is one.
+// The value of the escape behind a backslash, if it is one.
 fn escape_value(z: &[u8]) -> Option<u8>
     ensures { result ≡ spec.escape_value z.now }
 {
@@ -100,6 +105,7 @@ fn escape_value(z: &[u8]) -> Option<u8>
     }
 }
 
+// The value of the hexadecimal digits behind `\x`, if there are some and it is at most 255.
 fn hex_value(z: &[u8]) -> Option<u8>
     ensures { result ≡ (if spec.hex_count z.now == 0 then None else spec.byte_value 16 (take (spec.hex_count z.now) z.now)) }
 {
@@ -150,7 +156,10 @@ fn bad_escape(mut z: &[u8]) -> Option<Fault>
     let mut at: usize = 1;
     while z.len() != 0 {
         match character_value(z) {
-            None => return Some(Fault { at, rule: 4 }),
+            None => return Some(Fault {
+                at,
+                rule: FAULTY_ESCAPE,
+            }),
             Some(_) => {
                 let len = character_len(z);
                 at += len;
@@ -172,7 +181,6 @@ pub fn string_fault(w: &[u8]) -> Option<Fault>
 }
 
 /// Whether there is exactly one character.
-
 fn is_one_character(z: &[u8]) -> bool
     requires { length z.now < 2 ^ 63 }
     ensures { result ≡ (length (spec.characters 1 0 z.now) == 1) }
@@ -191,7 +199,10 @@ pub fn character_fault(w: &[u8]) -> Option<Fault>
     if is_one_character(z) {
         bad_escape(z)
     } else {
-        Some(Fault { at: 0, rule: 5 })
+        Some(Fault {
+            at: 0,
+            rule: NOT_ONE_CHARACTER,
+        })
     }
 }
 

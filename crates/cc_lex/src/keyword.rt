@@ -1,6 +1,6 @@
 // The keywords of C17 6.4.1.
 
-/// A keyword.
+/// A keyword, named after its spelling; `Alignas` to `ThreadLocal` are spelled with a `_` in front.
 #[derive(Clone, Copy, Debug, PartialEq, Eq)]
 pub enum Keyword {
     Auto,

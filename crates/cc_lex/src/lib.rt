@@ -16,6 +16,7 @@ mod number;
 mod profile;
 mod punct;
 mod reader;
+mod rule;
 mod run;
 mod spot;
 mod step;
@@ -28,6 +29,3 @@ pub use punct::Punct;
 pub use reader::lex;
 pub use spot::spot_of;
 pub use token::{LexFault, Token, TokenKind, TokenList};
-
-#[cfg(test)]
-mod tests;

@@ -14,6 +14,7 @@ use crate::keyword::{KEYWORDS, Keyword};
 use crate::length::begins_number;
 use crate::number::{constant, number_fault};
 use crate::punct::{DIGRAPHS, PUNCTS, Punct};
+use crate::rule::NOT_TAKEN;
 use crate::step::Fault;
 use crate::token::TokenKind;
 use cc_arith::IntKind;
@@ -39,6 +40,7 @@ pub fn is_same(mut a: &[u8], mut b: &[u8]) -> bool
     b.is_empty()
 }
 
+// The first keyword of the table that these bytes spell.
 fn keyword_in(mut table: &[(&[u8], Keyword)], w: &[u8]) -> Option<Keyword>
     ensures { result ≡ spec.lookup (map (λ k. (k.0.now, k.1)) table.entry.now) w.now }
 {
@@ -51,6 +53,7 @@ fn keyword_in(mut table: &[(&[u8], Keyword)], w: &[u8]) -> Option<Keyword>
     None
 }
 
+// The first punctuator of the table that these bytes spell.
 fn punct_in(mut table: &[(&[u8], Punct)], w: &[u8]) -> Option<Punct>
     ensures { result ≡ spec.lookup (map (λ p. (p.0.now, p.1)) table.entry.now) w.now }
 {
@@ -82,7 +85,7 @@ fn keyword(w: &[u8]) -> Option<Keyword>
     keyword_in(&KEYWORDS, w)
 }
 
-/// Whether these bytes are one of the 44 keywords.
+/// Whether these bytes are the spelling of one of the 44 keywords (C17 6.4.1). Takes no memory.
 pub fn is_keyword(w: &[u8]) -> bool
     ensures { result ≡ spec.is_keyword w.now }
 {
@@ -103,6 +106,7 @@ fn is_digraph(w: &[u8]) -> bool
     is_spelling_in(&DIGRAPHS, w)
 }
 
+// Whether these bytes can stand before a quote as the prefix of a wide or UTF-8 literal (C17 6.4.4.4, 6.4.5).
 fn is_prefix(w: &[u8]) -> bool
     ensures { result ≡ spec.is_prefix w.now }
 {
@@ -121,7 +125,10 @@ pub fn token_fault(w: &[u8], after: u8) -> Option<Fault>
     ensures within { IfSome result (λ f. f.at ≤ length w.now + 1) }
 {
     if is_prefix(w) && is_quote(after) {
-        Some(Fault { at: 0, rule: 9 })
+        Some(Fault {
+            at: 0,
+            rule: NOT_TAKEN,
+        })
     } else if begins_number(w) {
         number_fault(w)
     } else if first(w) == b'\'' {
@@ -129,7 +136,10 @@ pub fn token_fault(w: &[u8], after: u8) -> Option<Fault>
     } else if first(w) == b'"' {
         string_fault(w)
     } else if is_digraph(w) {
-        Some(Fault { at: 0, rule: 9 })
+        Some(Fault {
+            at: 0,
+            rule: NOT_TAKEN,
+        })
     } else {
         None
     }

@@ -8,17 +8,20 @@ ghost use Rattle.cc_lex.specs.Reading.{first_fault, pair_of, IsSound};
 ghost use Rattle.cc_lex.specs.Spellings as spellings;
 
 use crate::byte::{back, first, front, is_digit, is_hex_digit, is_octal_digit, second};
+use crate::rule::{NO_CONSTANT, NO_TYPE};
 use crate::step::Fault;
 use cc_arith::{IntKind, range};
 
 /// What a number's suffix says.
 #[derive(Clone, Copy)]
 pub struct Suffix {
+    /// Whether it has a `u`.
     pub is_unsigned: bool,
     /// How many `l` there are.
     pub longs: u8,
 }
 
+/// Whether the byte is a digit in base 8, 10 or 16.
 pub fn is_digit_in(base: u8, b: u8) -> bool
     ensures { result ≡ spec.is_digit_in base b }
 {
@@ -298,9 +301,15 @@ pub fn number_fault(w: &[u8]) -> Option<Fault>
 {
     let has_suffix = suffix_meaning(suffix_of(w)).is_some();
     if digits_of(w).is_empty() || !has_suffix {
-        Some(Fault { at: 0, rule: 6 })
+        Some(Fault {
+            at: 0,
+            rule: NO_CONSTANT,
+        })
     } else if type_of(w).is_none() {
-        Some(Fault { at: 0, rule: 7 })
+        Some(Fault {
+            at: 0,
+            rule: NO_TYPE,
+        })
     } else {
         None
     }

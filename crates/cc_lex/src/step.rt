@@ -10,21 +10,28 @@ ghost use Rattle.cc_lex.specs.Reading.{stepped};
 use crate::byte::{back, first, front, is_quote, is_white, second};
 use crate::length::{begins_comment, begins_skipped, comment_len, token_len};
 use crate::meaning::token_fault;
+use crate::rule::{NO_PIECE, NOT_TAKEN, OPEN_COMMENT, OPEN_QUOTE, SPLICE};
 use crate::run::{Class, run};
 
 /// A piece, and how many bytes it has.
 #[derive(Clone, Copy)]
 pub enum Step {
+    /// White bytes.
     White(usize),
+    /// A comment.
     Comment(usize),
+    /// A skipped line.
     Line(usize),
+    /// A token.
     Token(usize),
 }
 
 /// A place in what stands at the front, and the rule that it breaks.
 #[derive(Clone, Copy)]
 pub struct Fault {
+    /// How many bytes stand before the place.
     pub at: usize,
+    /// The number of the rule, from 1 to 9.
     pub rule: u8,
 }
 
@@ -58,9 +65,9 @@ pub fn everywhere(z: &[u8]) -> Option<u8>
     ensures { result ≡ faults.everywhere z.now }
 {
     if begins_splice(z) {
-        Some(8)
+        Some(SPLICE)
     } else if begins_trigraph(z) {
-        Some(9)
+        Some(NOT_TAKEN)
     } else {
         None
     }
@@ -84,7 +91,10 @@ fn comment(z: &[u8]) -> Result<Step, Fault>
 {
     let len = comment_len(z);
     if len == 0 {
-        return Err(Fault { at: 0, rule: 2 });
+        return Err(Fault {
+            at: 0,
+            rule: OPEN_COMMENT,
+        });
     }
     Ok(Step::Comment(len))
 }
@@ -94,11 +104,11 @@ fn unread(z: &[u8]) -> u8
     ensures { result ≡ spec.unread z.now }
 {
     if is_quote(first(z)) {
-        3
+        OPEN_QUOTE
     } else if begins_splice(z) {
-        8
+        SPLICE
     } else {
-        1
+        NO_PIECE
     }
 }
 
@@ -134,7 +144,10 @@ pub fn read_step(starts: bool, z: &[u8]) -> Result<Step, Fault>
         if starts && begins_skipped(z) {
             return Ok(Step::Line(run(Class::Line, 0, z)));
         }
-        return Err(Fault { at: 0, rule: 9 });
+        return Err(Fault {
+            at: 0,
+            rule: NOT_TAKEN,
+        });
     }
     token(z)
 }

@@ -9,7 +9,7 @@ use Rattle.cc_project.specs.Order.{files_of}
 use Rattle.cc_project.specs.Project.{files_in, files_from}
 use Rattle.cc_project.specs.Views.{all_data, texts_of}
 use Rattle.cc_project.specs.declared.project.ProjectFile.{ProjectFile}
-use Rattle.cc_project.proofs.Turns.{data_left, no_data_left}
+use Rattle.cc_project.proofs.Rounds.{data_left, no_data_left}
 
 -- what was copied, one more item, and what is left
 pub copied_more : {A : Type 0} (f : Data → A) (k : ℕ) (before after whole : List A) (vs : List Value) (value : Value) → k < length vs → value ≡ get_or vs k value

@@ -68,14 +68,14 @@ passed_up (Err y) e P is p = subst P (sym is) p
 
 -- ---- A turn of a loop: the rules that are left are those of this turn, and then more
 
-pub turn_fails : (left : Option Fault) (now more : List Rule) (whole : Option Fault) (e : ProjectFault)
+pub round_fails : (left : Option Fault) (now more : List Rule) (whole : Option Fault) (e : ProjectFault)
     → left ≡ whole → left ≡ first_failing (now ++ more) → Reports (first_failing now) e → Reports whole e
-turn_fails left now more whole e same parts r =
+round_fails left now more whole e same parts r =
     Reports-same (first_failing (now ++ more)) whole e (sym parts ∙ same) (Reports-front now more e r)
 
-pub turn_holds : (left : Option Fault) (now more : List Rule) (whole : Option Fault)
+pub round_holds : (left : Option Fault) (now more : List Rule) (whole : Option Fault)
     → left ≡ whole → left ≡ first_failing (now ++ more) → first_failing now ≡ None → first_failing more ≡ whole
-turn_holds left now more whole same parts none = sym (first-none now more none) ∙ sym parts ∙ same
+round_holds left now more whole same parts none = sym (first-none now more none) ∙ sym parts ∙ same
 
 -- ---- A list of rules in parts: the first part that fails, and all that hold
 

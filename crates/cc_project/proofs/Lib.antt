@@ -1,10 +1,10 @@
+pub mod Copies
+pub mod Firsts
+pub mod KeyTexts
+pub mod Limits
 pub mod NameParts
+pub mod Passes
+pub mod Rounds
 pub mod Texts
 pub mod Values
-pub mod KeyTexts
-pub mod Firsts
-pub mod Turns
-pub mod Copies
-pub mod Limits
-pub mod Passes
 pub mod WellMade

@@ -50,7 +50,7 @@ pub document_parts : (document : Data) → shape_fault document ≡ None
     × (first_failing (new_array_rules (codes "environment") 9 (rule.is_environment_array (get (codes "environment") document)) (rule.is_environment (texts_in (get (codes "entries") document))) (get (codes "environment") document)) ≡ None)
     × (first_failing (at (codes "test") 10 (rule.is_test_array (get (codes "test") document))) ≡ None)
     × (first_failing (tests_rules 0 [] (items_in (get (codes "test") document))) ≡ None)
-    × (first_failing (at (codes "top") 14 (rule.is_document document)) ≡ None)
+    × (first_failing (at (codes "top") 14 (rule.has_only_document_keys document)) ≡ None)
 unfolding rules_of
 document_parts document none = parts_of_8 _ _ _ _ _ _ _ _ none
 

@@ -4,6 +4,7 @@ use Rattle.std.specs.List.{list_all, All, AllByRecursion, AllPass, Any, Contains
 use Rattle.std.proofs.lemmas.Bool.{and_parts, false≢true, leb-true, cases_eq, cond-true}
 use Rattle.std.proofs.lemmas.List.{length-map, map-append}
 use Rattle.std.proofs.lemmas.List.Elements.{All-nil, All-cons, All-append, All-contains, All-same}
+use Rattle.std.proofs.lemmas.List.Kept.{AllPairs-cons}
 use Rattle.toml.specs.Data.{Data, string, integer, float, boolean, datetime, array, table, get}
 use Rattle.cc_project.specs.declared.project.ProjectFile.{ProjectFile}
 use Rattle.cc_project.specs.declared.project.RawCall.{RawCall}
@@ -14,7 +15,7 @@ use Rattle.cc_project.specs.Rules as rule
 use Rattle.cc_project.specs.Values.{is_any, is_text, is_integer, is_table, text_of, text_in, integer_of, items_in, texts_in, list_of}
 use Rattle.cc_project.specs.Order.{at, at_each_new, array_rules, component_rules, components_rules, test_rules, tests_rules, first_failing, shape_fault, name_of, files_of}
 use Rattle.cc_project.specs.Project.{files_in, files_from, call_in, call_of, turns_in, test_of, project_of}
-use Rattle.cc_project.specs.WellMade.{AllDiffer, file_names_of, test_names_of, IsWellMadeTest, IsWellMade}
+use Rattle.cc_project.specs.WellMade.{AllDiffer, AreInOrder, file_names_of, test_names_of, IsWellMadeTest, IsWellMade}
 use Rattle.cc_project.proofs.Firsts.{first-parts, parts_of_5, parts_of_6, at-holds}
 use Rattle.cc_project.proofs.Limits.{there_size, missing_size, document_parts}
 use Rattle.cc_project.proofs.Passes.{array_passes, text_passes, texts_pass, PassAfter, new_array_passes, new_items_pass, PassAfter-append, PassAfter-each, new_is_other, PassAfter-differ, none_differ, few_new_files}
@@ -49,7 +50,7 @@ component_passes i names files component none =
     let files_key = member_key owner (codes "files") in
     let parts = parts_of_5 (at name_key 3 (rule.is_component_name name)) (at name_key 4 (rule.is_new_component_name names (text_in name)))
     (array_rules files_key 5 (rule.is_file_array array) rule.is_file array) (at_each_new files_key 6 rule.is_new_file 0 files (texts_in array))
-    (at owner 7 (rule.is_component component)) none in
+    (at owner 7 (rule.has_only_component_keys component)) none in
     let listed = array_passes files_key 5 (rule.is_file_array array) rule.is_file array parts.2 in (
       record {
         name = text_passes is_name name (at-holds _ _ _ parts.0);
@@ -115,6 +116,30 @@ numbers_from i n [] below = All-nil (λ file. file.component.0 < n)
 numbers_from i n (component ∷ rest) below =
     All-append (λ file. file.component.0 < n) (files_in i (files_of component)) (files_from (i + 1) rest)
     (numbers_in i n (files_of component) (omega arith)) (numbers_from (i + 1) n rest (omega arith))
+
+least_in : (i n : ℕ) (texts : List (List ℕ)) → n ≤ i → All (λ file. n ≤ file.component.0) (files_in i texts)
+least_in i n [] above = All-nil (λ (file : ProjectFile). n ≤ file.component.0)
+least_in i n (text ∷ rest) above =
+    All-cons (λ file. n ≤ file.component.0) (record { name = text; component = record { 0 = i } }) (files_in i rest) above (least_in i n rest above)
+
+least_from : (i n : ℕ) (components : List Data) → n ≤ i → All (λ file. n ≤ file.component.0) (files_from i components)
+least_from i n [] above = All-nil (λ (file : ProjectFile). n ≤ file.component.0)
+least_from i n (component ∷ rest) above =
+    All-append (λ file. n ≤ file.component.0) (files_in i (files_of component)) (files_from (i + 1) rest)
+    (least_in i n (files_of component) above) (least_from (i + 1) n rest (omega arith))
+
+ordered_in : (i : ℕ) (texts : List (List ℕ)) (more : List ProjectFile) → All (λ file. i ≤ file.component.0) more → AreInOrder more
+    → AreInOrder (files_in i texts ++ more)
+ordered_in i [] more above ordered = ordered
+ordered_in i (text ∷ rest) more above ordered =
+    AllPairs-cons (λ (a b : ProjectFile). a.component.0 ≤ b.component.0) (record { name = text; component = record { 0 = i } }) (files_in i rest ++ more)
+    (All-append (λ file. i ≤ file.component.0) (files_in i rest) more (least_in i i rest (omega arith)) above)
+    (ordered_in i rest more above ordered)
+
+ordered_from : (i : ℕ) (components : List Data) → AreInOrder (files_from i components)
+ordered_from i [] = λ _ _ _ _ below. absurd (omega (arith, below))
+ordered_from i (component ∷ rest) =
+    ordered_in i (files_of component) (files_from (i + 1) rest) (least_from (i + 1) i rest (omega arith)) (ordered_from (i + 1) rest)
 
 Any-behind : {A : Type 0} (P : A → Type 0) (xs ys : List A) → Any P ys → Any P (xs ++ ys)
 Any-behind P [] ys any = any
@@ -227,6 +252,7 @@ well_made document none =
       components_differ = PassAfter-differ is_new (λ _ _ new. new) [] (map name_of found) none_differ components.new_names;
       components_have_files = λ i below. files_found 0 found components.each i (omega arith) (subst (λ n. i < n) (length-map found name_of ∙ sym (zero-add (length found))) below);
       files_have_components = numbers_from 0 (length (map name_of found)) found (omega (arith, length-map found name_of));
+      files_in_order = ordered_from 0 found;
       few_files =
           let e : length (files_from 0 found) ≡ length (all_files_of found) = sym (length-map (files_from 0 found) (λ file. file.name)) ∙ ap length (names_from 0 found) in
           subst (λ n. n ≤ 64) (sym e) (few_new_files [] (all_files_of found) (omega arith) components.new_files);

@@ -3,9 +3,9 @@ use Rattle.std.specs.Prelude.{ℕ, ◌+◌, Bool, if◌then◌else◌, List, [],
 use Rattle.toml.specs.Data.{Data, get}
 use Rattle.cc_project.specs.Places.{item_key, member_key}
 use Rattle.cc_project.specs.Values.{text_in, items_in, texts_in, is_integer}
-use Rattle.cc_project.specs.Rules.{is_format, is_component_array, is_component_name, is_new_component_name, is_file_array, is_file, is_new_file, is_component}
+use Rattle.cc_project.specs.Rules.{is_format, is_component_array, is_component_name, is_new_component_name, is_file_array, is_file, is_new_file, has_only_component_keys}
 use Rattle.cc_project.specs.Rules.{is_entry_array, is_entry, is_environment_array, is_environment, is_test_array, is_test_name, is_turns, is_call_array, is_call}
-use Rattle.cc_project.specs.Rules.{is_answer_array, is_requirement_array, is_requirement_text, is_test, is_document}
+use Rattle.cc_project.specs.Rules.{is_answer_array, is_requirement_array, is_requirement_text, has_only_test_keys, has_only_document_keys}
 
 -- a rule at one place of a document: the key text of the place, the number of the rule, and whether it holds there
 pub record Rule : Type 0 where
@@ -50,7 +50,7 @@ component_rules i names files component =
     then at (member_key owner (codes "name")) 4 (is_new_component_name names (text_in name))
     then array_rules (member_key owner (codes "files")) 5 (is_file_array array) is_file array
     then at_each_new (member_key owner (codes "files")) 6 is_new_file 0 files (texts_in array)
-    then at owner 7 (is_component component)
+    then at owner 7 (has_only_component_keys component)
 
 abbrev pub name_of : Data → List ℕ
 name_of component = text_in (get (codes "name") component)
@@ -79,7 +79,7 @@ test_rules i names test =
     then array_rules (member_key owner (codes "calls")) 13 (is_call_array calls) is_call calls
     then array_rules (member_key owner (codes "answers")) 13 (is_answer_array answers) is_integer answers
     then array_rules (member_key owner (codes "requirements")) 13 (is_requirement_array requirements) is_requirement_text requirements
-    then at owner 14 (is_test test)
+    then at owner 14 (has_only_test_keys test)
 
 -- the rules of these tests, the first of which is number i
 abbrev pub tests_rules : ℕ → List (List ℕ) → List Data → List Rule
@@ -100,7 +100,7 @@ rules_of document =
     then new_array_rules (codes "environment") 9 (is_environment_array environment) (is_environment (texts_in entries)) environment
     then at (codes "test") 10 (is_test_array tests)
     then tests_rules 0 [] (items_in tests)
-    then at (codes "top") 14 (is_document document)
+    then at (codes "top") 14 (has_only_document_keys document)
 
 -- the key text and the number of the first rule that fails
 unfoldable pub first_failing : List Rule → Option (List ℕ × ℕ)

@@ -38,8 +38,8 @@ abbrev pub is_new_file : List (List ℕ) → List ℕ → Bool
 is_new_file before file = is_new before file && nat_lt (length before) 64
 
 -- J7: no other key
-abbrev pub is_component : Data → Bool
-is_component = has_only (codes "name" ∷ codes "files" ∷ [])
+abbrev pub has_only_component_keys : Data → Bool
+has_only_component_keys = has_only (codes "name" ∷ codes "files" ∷ [])
 
 -- J8: an array of 1 to 256 strings; each a C identifier, no keyword, and none that was there before
 abbrev pub is_entry_array : Option Data → Bool
@@ -95,8 +95,8 @@ abbrev pub is_requirement_text : Data → Bool
 is_requirement_text = is_text_that is_requirement
 
 -- J14: no other key, in a test and in the document
-abbrev pub is_test : Data → Bool
-is_test = has_only (codes "name" ∷ codes "turns" ∷ codes "calls" ∷ codes "answers" ∷ codes "requirements" ∷ [])
+abbrev pub has_only_test_keys : Data → Bool
+has_only_test_keys = has_only (codes "name" ∷ codes "turns" ∷ codes "calls" ∷ codes "answers" ∷ codes "requirements" ∷ [])
 
-abbrev pub is_document : Data → Bool
-is_document = has_only (codes "format" ∷ codes "component" ∷ codes "entries" ∷ codes "environment" ∷ codes "test" ∷ [])
+abbrev pub has_only_document_keys : Data → Bool
+has_only_document_keys = has_only (codes "format" ∷ codes "component" ∷ codes "entries" ∷ codes "environment" ∷ codes "test" ∷ [])

@@ -13,6 +13,10 @@ AllDiffer = AllPairs (λ a b. a ≢ b)
 abbrev pub file_names_of : List ProjectFile → List (List ℕ)
 file_names_of = map (λ file. file.name)
 
+-- the files stand in the order of their components
+abbrev pub AreInOrder : List ProjectFile → Type 0
+AreInOrder = AllPairs (λ a b. a.component.0 ≤ b.component.0)
+
 abbrev pub test_names_of : List RawTest → List (List ℕ)
 test_names_of = map (λ test. test.name)
 
@@ -33,9 +37,11 @@ pub record IsWellMade (project : Project) : Type 0 where
   pub few_components : length project.components ≤ 64
   pub component_names : AllPass is_name project.components
   pub components_differ : AllDiffer project.components
-  -- J5, J6: each component has a file, each file is one of a component, and there are at most 64 in all
+  -- J5, J6: each component has a file, each file is one of a component, they stand in the order of the components, and
+  -- there are at most 64 in all
   pub components_have_files : (i : ℕ) → i < length project.components → Any (λ file. file.component.0 ≡ i) project.files
   pub files_have_components : All (λ file. file.component.0 < length project.components) project.files
+  pub files_in_order : AreInOrder project.files
   pub few_files : length project.files ≤ 64
   pub file_names : AllPass is_file_name (file_names_of project.files)
   pub files_differ : AllDiffer (file_names_of project.files)

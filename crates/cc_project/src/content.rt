@@ -6,6 +6,7 @@ ghost use Rattle.cc_project.specs.Project.{call_in, call_of, test_of, turns_in, 
 ghost use Rattle.cc_project.specs.Values as spec;
 ghost use Rattle.cc_project.specs.Views.{data_in, all_data, texts_of};
 
+use crate::limit::MOST_TURNS;
 use crate::project::{
     NumberList, Project, ProjectFile, ProjectFileList, RawCall, RawCallList, RawTest, RawTestList,
     TextList,
@@ -15,12 +16,14 @@ use cc_base::{CompId, List, Memory, Text};
 use std::alloc::Global;
 use toml::Value;
 
+// A text of its own.
 fn copy(alloc: Global, text: &str) -> Result<Text, Memory>
     ensures { IfOk result (λ copied. copied ≡ text.now) }
 {
     Ok(Text::new(String::from_str(alloc, text)?))
 }
 
+// The strings of these items.
 fn texts(alloc: Global, items: &[Value]) -> Result<TextList, Memory>
     ensures { IfOk result (λ list. list ≡ texts_of items.now) }
 {
@@ -31,21 +34,23 @@ fn texts(alloc: Global, items: &[Value]) -> Result<TextList, Memory>
     Ok(list)
 }
 
-fn wide(value: &Value) -> i128
+// The integer, or 0.
+fn integer(value: &Value) -> i64
     ensures { result ≡ spec.integer_of (view value.now) }
 {
     match value {
-        Value::Integer(number) => i128::from(*number),
+        Value::Integer(number) => *number,
         _ => 0,
     }
 }
 
+// The integers of these items.
 fn integers(alloc: Global, items: &[Value]) -> Result<NumberList, Memory>
     ensures { IfOk result (λ list. list ≡ map spec.integer_of (all_data items.now)) }
 {
     let mut list = List::new(alloc);
     for item in items {
-        list.push(wide(item))?;
+        list.push(integer(item))?;
     }
     Ok(list)
 }
@@ -68,12 +73,14 @@ fn call_of_items(alloc: Global, items: &[Value]) -> Result<RawCall, Memory>
     }
 }
 
+// The call that an array says.
 fn call(alloc: Global, value: &Value) -> Result<RawCall, Memory>
     ensures { IfOk result (λ call. call ≡ call_of (view value.now)) }
 {
     call_of_items(alloc, items_of(value))
 }
 
+// The calls that these arrays say.
 fn calls(alloc: Global, items: &[Value]) -> Result<RawCallList, Memory>
     ensures { IfOk result (λ list. list ≡ map call_of (all_data items.now)) }
 {
@@ -90,7 +97,7 @@ fn turns(value: Option<&Value>) -> u32
 {
     match value {
         Some(Value::Integer(number)) => {
-            if 1 <= *number && *number <= 10_000_000 {
+            if 1 <= *number && *number <= MOST_TURNS {
                 *number as u32
             } else {
                 0
@@ -100,6 +107,7 @@ fn turns(value: Option<&Value>) -> u32
     }
 }
 
+// The test that a table says.
 fn test(alloc: Global, value: &Value) -> Result<RawTest, Memory>
     ensures { IfOk result (λ test. test ≡ test_of (view value.now)) }
 {
@@ -117,6 +125,7 @@ fn test(alloc: Global, value: &Value) -> Result<RawTest, Memory>
     })
 }
 
+// The tests that these tables say.
 fn tests(alloc: Global, items: &[Value]) -> Result<RawTestList, Memory>
     ensures { IfOk result (λ list. list ≡ map test_of (all_data items.now)) }
 {

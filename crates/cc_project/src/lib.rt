@@ -8,13 +8,13 @@
 
 mod content;
 mod fault;
+mod limit;
 mod name;
 mod project;
 mod reader;
+mod rule;
 mod seen;
 mod shape;
-#[cfg(test)]
-mod tests;
 mod value;
 
 pub use fault::{Key, ProjectFault};

@@ -4,6 +4,8 @@ ghost use Rattle.std.specs.List.{list_all};
 ghost use Rattle.cc_lex.specs.Bytes as lex;
 ghost use Rattle.cc_project.specs.Names as spec;
 
+use crate::limit::{MOST_FILE_NAME_BYTES, MOST_NAME_BYTES};
+
 // A letter, a digit, `_` or `-`.
 fn in_name(byte: u8) -> bool
     ensures { result ≡ spec.in_name byte }
@@ -47,7 +49,9 @@ pub fn is_name(text: &[u8]) -> bool
     ensures { result ≡ spec.is_name text.now }
 {
     match text.first() {
-        Some(first) => { first.is_ascii_alphabetic() && are_in_name(text) && text.len() <= 64 }
+        Some(first) => {
+            first.is_ascii_alphabetic() && are_in_name(text) && text.len() <= MOST_NAME_BYTES
+        }
         None => false,
     }
 }
@@ -58,7 +62,7 @@ pub fn is_requirement(text: &[u8]) -> bool
     ensures { result ≡ spec.is_requirement text.now }
 {
     match text.first() {
-        Some(_) => are_in_requirement(text) && text.len() <= 64,
+        Some(_) => are_in_requirement(text) && text.len() <= MOST_NAME_BYTES,
         None => false,
     }
 }
@@ -71,7 +75,10 @@ pub fn is_file_name(text: &[u8]) -> bool
 {
     match text.first() {
         Some(first) => {
-            *first != b'/' && are_in_file_name(text) && text.len() <= 200 && !has_part_up(text)
+            *first != b'/'
+                && are_in_file_name(text)
+                && text.len() <= MOST_FILE_NAME_BYTES
+                && !has_part_up(text)
         }
         None => false,
     }

@@ -11,7 +11,15 @@ ghost use Rattle.cc_project.specs.Values as spec;
 ghost use Rattle.cc_project.specs.Views.{data_in, all_data, test_of};
 
 use crate::fault::{Field, ProjectFault, demand_at, demand_of, member, top};
+use crate::limit::{
+    MOST_ANSWERS, MOST_CALLS, MOST_COMPONENTS, MOST_FILES, MOST_FUNCTIONS, MOST_REQUIREMENTS,
+    MOST_TESTS,
+};
 use crate::name::is_function_name;
+use crate::rule::{
+    COMPONENT_KEYS, COMPONENT_NAME, COMPONENTS, ENTRIES, ENVIRONMENT, FILES, FORMAT, NEW_COMPONENT,
+    NEW_FILE, OTHER_KEYS, TEST_LISTS, TEST_NAME, TESTS, TURNS,
+};
 use crate::seen::Seen;
 use crate::value::{
     Kind, at_key, fits, has_array, has_only, is_format, is_name_value, is_turns, items_in,
@@ -24,7 +32,7 @@ use toml::Value;
 fn is_new_file(is_new: bool, count: usize) -> bool
     ensures { result ≡ (is_new && nat_lt count 64) }
 {
-    is_new && count < 64
+    is_new && count < MOST_FILES
 }
 
 fn is_entry(text: &str, is_new: bool) -> bool
@@ -95,7 +103,7 @@ fn check_files<'a>(
         let item = &items[k];
         let count = files.len();
         let is_new = files.add(text_of(item))?;
-        demand_at(alloc, field, k, 6, is_new_file(is_new, count))?;
+        demand_at(alloc, field, k, NEW_FILE, is_new_file(is_new, count))?;
     }
     Ok(())
 }
@@ -114,7 +122,7 @@ fn check_entries<'a>(
         let item = &items[k];
         let text = text_of(item);
         let is_new = entries.add(text)?;
-        demand_at(alloc, top("entries"), k, 8, is_entry(text, is_new))?;
+        demand_at(alloc, top("entries"), k, ENTRIES, is_entry(text, is_new))?;
     }
     Ok(())
 }
@@ -134,7 +142,7 @@ fn check_environment<'a>(
         let text = text_of(item);
         let is_new = environment.add(text)?;
         let holds = is_environment(text, is_new, entries);
-        demand_at(alloc, top("environment"), k, 9, holds)?;
+        demand_at(alloc, top("environment"), k, ENVIRONMENT, holds)?;
     }
     Ok(())
 }
@@ -152,8 +160,8 @@ fn check_entry_array<'a>(
     demand_of(
         alloc,
         top("entries"),
-        8,
-        has_array(1, 256, Kind::Text, value),
+        ENTRIES,
+        has_array(1, MOST_FUNCTIONS, Kind::Text, value),
     )?;
     check_entries(alloc, items_in(value), entries)?;
     Ok(())
@@ -170,8 +178,8 @@ fn check_environment_array<'a>(
     demand_of(
         alloc,
         top("environment"),
-        9,
-        may_have_array(256, Kind::Text, value),
+        ENVIRONMENT,
+        may_have_array(MOST_FUNCTIONS, Kind::Text, value),
     )?;
     let mut environment = Seen::new(alloc);
     check_environment(alloc, items_in(value), entries, &mut environment)?;
@@ -195,18 +203,18 @@ fn check_component<'a>(
     demand_of(
         alloc,
         member("component", i, "name"),
-        3,
+        COMPONENT_NAME,
         is_name_value(name),
     )?;
     let is_new = names.add(text_in(name))?;
-    demand_of(alloc, member("component", i, "name"), 4, is_new)?;
+    demand_of(alloc, member("component", i, "name"), NEW_COMPONENT, is_new)?;
     let array = at_key(component, "files");
     let field = member("component", i, "files");
-    let is_whole = has_array(1, 64, Kind::Text, array);
-    check_array(alloc, field, 5, is_whole, Kind::File, array)?;
+    let is_whole = has_array(1, MOST_FILES, Kind::Text, array);
+    check_array(alloc, field, FILES, is_whole, Kind::File, array)?;
     check_files(alloc, field, items_in(array), files)?;
     let is_all = has_only(component, &["name", "files"]);
-    demand_at(alloc, top("component"), i, 7, is_all)?;
+    demand_at(alloc, top("component"), i, COMPONENT_KEYS, is_all)?;
     Ok(())
 }
 
@@ -239,47 +247,47 @@ fn check_test<'a>(
     demand_of(
         alloc,
         member("test", i, "name"),
-        11,
+        TEST_NAME,
         is_test_name(name, is_new),
     )?;
     demand_of(
         alloc,
         member("test", i, "turns"),
-        12,
+        TURNS,
         is_turns(at_key(test, "turns")),
     )?;
     let calls = at_key(test, "calls");
-    let is_whole = has_array(0, 10_000, Kind::Any, calls);
+    let is_whole = has_array(0, MOST_CALLS, Kind::Any, calls);
     check_array(
         alloc,
         member("test", i, "calls"),
-        13,
+        TEST_LISTS,
         is_whole,
         Kind::Call,
         calls,
     )?;
     let answers = at_key(test, "answers");
-    let is_whole = may_have_array(100_000, Kind::Any, answers);
+    let is_whole = may_have_array(MOST_ANSWERS, Kind::Any, answers);
     check_array(
         alloc,
         member("test", i, "answers"),
-        13,
+        TEST_LISTS,
         is_whole,
         Kind::Integer,
         answers,
     )?;
     let listed = at_key(test, "requirements");
-    let is_whole = may_have_array(100, Kind::Any, listed);
+    let is_whole = may_have_array(MOST_REQUIREMENTS, Kind::Any, listed);
     check_array(
         alloc,
         member("test", i, "requirements"),
-        13,
+        TEST_LISTS,
         is_whole,
         Kind::Requirement,
         listed,
     )?;
     let is_all = has_only(test, &["name", "turns", "calls", "answers", "requirements"]);
-    demand_at(alloc, top("test"), i, 14, is_all)?;
+    demand_at(alloc, top("test"), i, OTHER_KEYS, is_all)?;
     Ok(())
 }
 
@@ -303,15 +311,15 @@ pub fn check(alloc: Global, document: &Value) -> Result<(), ProjectFault>
     demand_of(
         alloc,
         top("format"),
-        1,
+        FORMAT,
         is_format(at_key(document, "format")),
     )?;
     let components = at_key(document, "component");
     demand_of(
         alloc,
         top("component"),
-        2,
-        has_array(1, 64, Kind::Table, components),
+        COMPONENTS,
+        has_array(1, MOST_COMPONENTS, Kind::Table, components),
     )?;
     check_components(alloc, items_in(components))?;
     let mut entries = Seen::new(alloc);
@@ -321,14 +329,14 @@ pub fn check(alloc: Global, document: &Value) -> Result<(), ProjectFault>
     demand_of(
         alloc,
         top("test"),
-        10,
-        may_have_array(1000, Kind::Table, tests),
+        TESTS,
+        may_have_array(MOST_TESTS, Kind::Table, tests),
     )?;
     check_tests(alloc, items_in(tests))?;
     let is_all = has_only(
         document,
         &["format", "component", "entries", "environment", "test"],
     );
-    demand_of(alloc, top("top"), 14, is_all)?;
+    demand_of(alloc, top("top"), OTHER_KEYS, is_all)?;
     Ok(())
 }

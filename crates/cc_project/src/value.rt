@@ -8,6 +8,7 @@ ghost use Rattle.cc_project.specs.Values as spec;
 ghost use Rattle.cc_project.specs.Rules as rule;
 ghost use Rattle.cc_project.specs.Views.{data_in, all_data, test_of};
 
+use crate::limit::{MOST_ARGUMENTS, MOST_TURNS};
 use crate::name::{is_file_name, is_name, is_requirement};
 use toml::{Table, Value};
 
@@ -79,7 +80,7 @@ fn is_call_list(items: &[Value]) -> bool
 {
     match items {
         [entry, arguments @ ..] => {
-            is_text(entry) && arguments.len() <= 32 && are_integers(arguments)
+            is_text(entry) && arguments.len() <= MOST_ARGUMENTS && are_integers(arguments)
         }
         [] => false,
     }
@@ -182,7 +183,7 @@ pub fn is_turns(value: Option<&Value>) -> bool
     ensures { result ≡ rule.is_turns (data_in value.entry) }
 {
     match value {
-        Some(Value::Integer(number)) => 1 <= *number && *number <= 10_000_000,
+        Some(Value::Integer(number)) => 1 <= *number && *number <= MOST_TURNS,
         _ => false,
     }
 }

@@ -6,7 +6,7 @@ use Rattle.cc_project.specs.Values.{items_in, texts_in}
 use Rattle.cc_project.specs.Order.{new_array_rules, components_rules, tests_rules, rules_of, first_failing}
 use Rattle.cc_project.specs.Views.{data_in}
 use Rattle.cc_project.proofs.Firsts.{passed_up, Reports-same, fails_at_1, fails_at_2, fails_at_3, fails_at_4, fails_at_5, fails_at_6, fails_at_7, fails_last_8, all_hold_8}
-use Rattle.cc_project.proofs.Turns.{moved}
+use Rattle.cc_project.proofs.Rounds.{moved}
 use Rattle.cc_project.proofs.shape.check.Goals as goal
 
 pub returns-in_err-demand_of-clause-err : goal.returns-in_err-demand_of-clause-err

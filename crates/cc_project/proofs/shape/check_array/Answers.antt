@@ -2,7 +2,7 @@ use Rattle.std.proofs.Common.{sym, ◌∙◌}
 use Rattle.cc_project.specs.Keys.{field_text}
 use Rattle.cc_project.specs.Views.{test_of}
 use Rattle.cc_project.proofs.Firsts.{passed_up, Reports-same, fails_at_1, fails_last_2, all_hold_2}
-use Rattle.cc_project.proofs.Turns.{moved_items}
+use Rattle.cc_project.proofs.Rounds.{moved_items}
 use Rattle.cc_project.proofs.shape.check_array.Goals as goal
 
 pub returns-in_err-demand_of-clause-err : goal.returns-in_err-demand_of-clause-err

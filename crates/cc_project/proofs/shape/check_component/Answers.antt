@@ -4,7 +4,7 @@ use Rattle.cc_project.specs.Rules as rule
 use Rattle.cc_project.specs.Values.{text_of, text_in, items_in}
 use Rattle.cc_project.specs.Order.{component_rules}
 use Rattle.cc_project.proofs.Firsts.{passed_up, at-holds, Reports-same, fails_at_1, fails_at_2, fails_at_3, fails_at_4, fails_last_5, all_hold_5}
-use Rattle.cc_project.proofs.Turns.{moved, moved_array, moved_new, grown}
+use Rattle.cc_project.proofs.Rounds.{moved, moved_array, moved_new, grown}
 use Rattle.cc_project.proofs.shape.check_component.Goals as goal
 
 pub returns-in_err-demand_of-clause-err : goal.returns-in_err-demand_of-clause-err

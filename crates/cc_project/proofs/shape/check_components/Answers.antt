@@ -1,5 +1,5 @@
 use Rattle.cc_project.proofs.Firsts.{passed_up}
-use Rattle.cc_project.proofs.Turns.{component_fails, component_holds, components_end}
+use Rattle.cc_project.proofs.Rounds.{component_fails, component_holds, components_end}
 use Rattle.cc_project.proofs.shape.check_components.Goals as goal
 
 pub returns-in_err-check_component-clause-err : goal.returns-in_err-check_component-clause-err

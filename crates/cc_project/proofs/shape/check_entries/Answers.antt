@@ -1,7 +1,7 @@
 use Rattle.std.proofs.Common.{◌≡◌, true, codes, sym, ap, ◌∙◌}
 use Rattle.cc_project.specs.Rules as rule
 use Rattle.cc_project.proofs.Firsts.{passed_up, at-holds, Reports-same}
-use Rattle.cc_project.proofs.Turns.{new_fails, new_holds, new_ends, seen_more, seen_all, grown, entry_holds, second_true}
+use Rattle.cc_project.proofs.Rounds.{new_fails, new_holds, new_ends, seen_more, seen_all, grown, entry_holds, second_true}
 use Rattle.cc_project.specs.Order.{at, first_failing}
 use Rattle.cc_project.specs.Places.{item_key}
 use Rattle.cc_project.proofs.shape.check_entries.Goals as goal

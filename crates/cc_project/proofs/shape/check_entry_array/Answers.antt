@@ -3,7 +3,7 @@ use Rattle.cc_project.specs.Rules as rule
 use Rattle.cc_project.specs.Values.{text_of}
 use Rattle.cc_project.specs.Views.{all_data}
 use Rattle.cc_project.proofs.Firsts.{passed_up, Reports-same, fails_at_1, fails_last_2, all_hold_2}
-use Rattle.cc_project.proofs.Turns.{moved, moved_new}
+use Rattle.cc_project.proofs.Rounds.{moved, moved_new}
 use Rattle.cc_project.proofs.shape.check_entry_array.Goals as goal
 
 pub returns-in_err-demand_of-clause-err : goal.returns-in_err-demand_of-clause-err

@@ -1,7 +1,7 @@
 use Rattle.std.proofs.Common.{◌≡◌, true}
 use Rattle.cc_project.specs.Rules as rule
 use Rattle.cc_project.proofs.Firsts.{passed_up, at-holds}
-use Rattle.cc_project.proofs.Turns.{new_fails, new_holds, new_ends, seen_more, seen_all, grown, file_holds, first_true}
+use Rattle.cc_project.proofs.Rounds.{new_fails, new_holds, new_ends, seen_more, seen_all, grown, file_holds, first_true}
 use Rattle.cc_project.specs.Keys.{field_text}
 use Rattle.cc_project.proofs.shape.check_files.Goals as goal
 

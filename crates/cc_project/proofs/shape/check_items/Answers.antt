@@ -1,7 +1,7 @@
 use Rattle.cc_project.specs.Keys.{field_text}
 use Rattle.cc_project.specs.Views.{test_of}
 use Rattle.cc_project.proofs.Firsts.{passed_up}
-use Rattle.cc_project.proofs.Turns.{each_fails, each_holds, each_ends}
+use Rattle.cc_project.proofs.Rounds.{each_fails, each_holds, each_ends}
 use Rattle.cc_project.proofs.shape.check_items.Goals as goal
 
 pub returns-in_err-demand_at-clause-err : goal.returns-in_err-demand_at-clause-err

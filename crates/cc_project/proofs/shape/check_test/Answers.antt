@@ -4,7 +4,7 @@ use Rattle.cc_project.specs.Rules as rule
 use Rattle.cc_project.specs.Values.{text_in, is_integer}
 use Rattle.cc_project.specs.Order.{test_rules}
 use Rattle.cc_project.proofs.Firsts.{passed_up, at-holds, Reports-same, fails_at_1, fails_at_2, fails_at_3, fails_at_4, fails_at_5, fails_last_6, all_hold_6}
-use Rattle.cc_project.proofs.Turns.{moved, moved_array, grown, second_true, test_name_holds}
+use Rattle.cc_project.proofs.Rounds.{moved, moved_array, grown, second_true, test_name_holds}
 use Rattle.cc_project.proofs.shape.check_test.Goals as goal
 
 pub returns-in_err-demand_of-clause-err : goal.returns-in_err-demand_of-clause-err

@@ -1,5 +1,5 @@
 use Rattle.cc_project.proofs.Firsts.{passed_up}
-use Rattle.cc_project.proofs.Turns.{test_fails, test_holds, tests_end}
+use Rattle.cc_project.proofs.Rounds.{test_fails, test_holds, tests_end}
 use Rattle.cc_project.proofs.shape.check_tests.Goals as goal
 
 pub returns-in_err-check_test-clause-err : goal.returns-in_err-check_test-clause-err

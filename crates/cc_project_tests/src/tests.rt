@@ -1,8 +1,7 @@
 // The rules of `docs/project-file.md` by examples, worked out by hand.
 
-use super::*;
+use cc_project::{Project, ProjectFault, RawCall, RawTest, TextList, read_project};
 use std::alloc::Global;
-use std::process::Abort;
 use std::test::Fail;
 
 /// A project file, which the rows below change in one place.
@@ -190,7 +189,7 @@ const TESTS: [(&str, &str, &str); 17] = [
 ];
 
 /// The calls of J13.
-const CALLS: [(&str, &str, &str); 11] = [
+const CALLS: [(&str, &str, &str); 12] = [
     ("calls = [[\"f\"]]\n", "", "J13 test[0].calls"),
     ("[[\"f\"]]", "\"f\"", "J13 test[0].calls"),
     ("[[\"f\"]]", "[\"f\"]", "J13 test[0].calls[0]"),
@@ -204,6 +203,11 @@ const CALLS: [(&str, &str, &str); 11] = [
     ),
     ("[[\"f\"]]", "[{ f = 1 }]", "J13 test[0].calls[0]"),
     ("[[\"f\"]]", "[]", "| A B | a.c=A b.c=B | f | | T1 1000"),
+    (
+        "[[\"f\"]]",
+        "[[\"\"\"\r\na\r\nb\"\"\"]]",
+        "| A B | a.c=A b.c=B | f | | T1 1000 a\r\nb()",
+    ),
     (
         "[[\"f\"]]",
         "[[\"f\", -5, 0x10], [\"no name\"]]",
@@ -353,6 +357,22 @@ const WHOLE: [(&[u8], &str); 17] = [
     ),
 ];
 
+/// Edges of TOML 1.1. A file that is TOML breaks a rule here.
+const TOML: [(&[u8], &str); 12] = [
+    (b"x = 1e308", "J1 format"),
+    (b"x = 1e309", "not TOML"),
+    (b"x = [1e400]", "not TOML"),
+    (b"x = inf", "J1 format"),
+    (b"x = 9223372036854775807", "J1 format"),
+    (b"x = -9223372036854775809", "not TOML"),
+    (b"x = \"\"\"a\r\nb\"\"\"", "J1 format"),
+    (b"x = \"\"\"a\rb\"\"\"", "not TOML"),
+    (b"x = '''a\rb'''", "not TOML"),
+    (b"x = \"\\e[0m\\x41\"", "J1 format"),
+    (b"x = { a = 1,\n b = 2, }", "J1 format"),
+    (b"x = 07:32", "J1 format"),
+];
+
 /// What each file of `ALIKE` says.
 const SAID: &str = "| A B | a.c=A d/b.c=B | f | g | T1 16 f(1,-2) ? 3 # R-1";
 
@@ -379,7 +399,7 @@ const ALIKE: [&[u8]; 10] = [
 ];
 
 // Each row of these tables is a text of `BASE`, what stands in its place, a text that stands so many times at its `@`,
-// with the turn's number at `%`, and what the reading gives.
+// with its number at `%`, and what the reading gives.
 
 /// The most files, entries, functions of the environment, components and tests, and one more.
 const MOST: [(&str, &str, &str, usize, &str); 13] = [
@@ -470,6 +490,14 @@ const LONGEST: [(&str, &str, &str, usize, &str); 14] = [
     ),
 ];
 
+/// The most parts of a key, and one more.
+const NESTED: [(&str, &str, &str, usize, &str); 4] = [
+    ("format = 1", "format = 1\n@y = 1", "y.", 79, "J14 top"),
+    ("format = 1", "format = 1\n@y = 1", "y.", 80, "not TOML"),
+    ("[[test]]", "[@y]\n[[test]]", "y.", 79, "J14 top"),
+    ("[[test]]", "[@y]\n[[test]]", "y.", 80, "not TOML"),
+];
+
 /// Adds each text behind a space.
 fn push_texts(shown: &mut String, texts: &TextList) -> Result<(), Fail> {
     for i in 0..texts.len() {
@@ -553,35 +581,38 @@ fn shown(alloc: Global, bytes: &[u8]) -> Result<String, Fail> {
     }
 }
 
-/// Asserts what `shown` gives for each file.
-fn assert_files(rt: &impl Abort, alloc: Global, rows: &[(&[u8], &str)]) -> Result<(), Fail> {
+/// Whether `shown` gives for each file what its row says.
+fn files_hold(alloc: Global, rows: &[(&[u8], &str)]) -> Result<bool, Fail> {
     for row in rows {
-        let text = shown(alloc, row.0)?;
-        assert_eq!(rt; text.as_str(), row.1, "{:?}", row.0);
+        if shown(alloc, row.0)?.as_str() != row.1 {
+            return Ok(false);
+        }
     }
-    Ok(())
+    Ok(true)
 }
 
-/// Asserts that each of these files says what `SAID` shows.
-fn assert_alike(rt: &impl Abort, alloc: Global, files: &[&[u8]]) -> Result<(), Fail> {
+/// Whether each of these files says what `SAID` shows.
+fn are_alike(alloc: Global, files: &[&[u8]]) -> Result<bool, Fail> {
     for file in files {
-        let text = shown(alloc, *file)?;
-        assert_eq!(rt; text.as_str(), SAID, "{:?}", *file);
+        if shown(alloc, *file)?.as_str() != SAID {
+            return Ok(false);
+        }
     }
-    Ok(())
+    Ok(true)
 }
 
-/// Asserts what `shown` gives for `BASE` with each change.
-fn assert_changes(rt: &impl Abort, alloc: Global, rows: &[(&str, &str, &str)]) -> Result<(), Fail> {
+/// Whether `shown` gives for `BASE` with each change what the row says.
+fn changes_hold(alloc: Global, rows: &[(&str, &str, &str)]) -> Result<bool, Fail> {
     for row in rows {
         let file = BASE.replacen(alloc, row.0, row.1, 1)?;
-        let text = shown(alloc, file.as_str().as_bytes())?;
-        assert_eq!(rt; text.as_str(), row.2, "{}", row.1);
+        if shown(alloc, file.as_str().as_bytes())?.as_str() != row.2 {
+            return Ok(false);
+        }
     }
-    Ok(())
+    Ok(true)
 }
 
-/// The text so many times, with the turn's number at `%`.
+/// The text so many times, with its number, from 0, at `%`.
 fn repeated(alloc: Global, text: &str, times: usize) -> Result<String, Fail> {
     let mut all = String::new(alloc);
     for i in 0..times {
@@ -591,44 +622,71 @@ fn repeated(alloc: Global, text: &str, times: usize) -> Result<String, Fail> {
     Ok(all)
 }
 
-/// Asserts what the reading gives for `BASE` with each repeated text.
-fn assert_limits(
-    rt: &impl Abort,
+/// What the reading gives for `BASE` where a new text stands, with a repeated text at its `@`.
+fn read_repeated(
     alloc: Global,
-    rows: &[(&str, &str, &str, usize, &str)],
-) -> Result<(), Fail> {
-    for row in rows {
-        let all = repeated(alloc, row.2, row.3)?;
-        let new = row.1.replacen(alloc, "@", all.as_str(), 1)?;
-        let file = BASE.replacen(alloc, row.0, new.as_str(), 1)?;
-        let text = match read_project(alloc, file.as_str().as_bytes()) {
-            Ok(_) => String::from_str(alloc, "ok")?,
-            Err(fault) => shown_fault(alloc, &fault)?,
-        };
-        assert_eq!(rt; text.as_str(), row.4, "{} times {}", row.3, row.2);
+    old: &str,
+    new: &str,
+    text: &str,
+    times: usize,
+) -> Result<String, Fail> {
+    let all = repeated(alloc, text, times)?;
+    let new = new.replacen(alloc, "@", all.as_str(), 1)?;
+    let file = BASE.replacen(alloc, old, new.as_str(), 1)?;
+    match read_project(alloc, file.as_str().as_bytes()) {
+        Ok(_) => Ok(String::from_str(alloc, "ok")?),
+        Err(fault) => shown_fault(alloc, &fault),
     }
-    Ok(())
+}
+
+/// Whether the reading gives what each row says.
+fn limits_hold(alloc: Global, rows: &[(&str, &str, &str, usize, &str)]) -> Result<bool, Fail> {
+    for row in rows {
+        if read_repeated(alloc, row.0, row.1, row.2, row.3)?.as_str() != row.4 {
+            return Ok(false);
+        }
+    }
+    Ok(true)
+}
+
+/// What `shown` gives for so many arrays, one in another.
+fn shown_nested(alloc: Global, depth: usize) -> Result<String, Fail> {
+    let mut file = String::from_str(alloc, "x = ")?;
+    file.push_str(repeated(alloc, "[", depth)?.as_str())?;
+    file.push_str(repeated(alloc, "]", depth)?.as_str())?;
+    shown(alloc, file.as_str().as_bytes())
 }
 
 #[test]
-fn reads_files(rt: HostRuntime) -> Result<(), Fail> {
+fn documents(rt: HostRuntime) -> Result<(), Fail> {
     let alloc = rt.alloc();
-    assert_files(&rt, alloc, &WHOLE)?;
-    assert_alike(&rt, alloc, &ALIKE)?;
-    assert_changes(&rt, alloc, &FORMAT_AND_NAMES)?;
-    assert_changes(&rt, alloc, &FILES)?;
-    assert_changes(&rt, alloc, &ENTRIES)?;
-    assert_changes(&rt, alloc, &ENVIRONMENT)?;
-    assert_changes(&rt, alloc, &TESTS)?;
-    assert_changes(&rt, alloc, &CALLS)?;
-    assert_changes(&rt, alloc, &ANSWERS)?;
-    assert_changes(&rt, alloc, &FIRST_OF_TWO)?;
+    assert!(rt; files_hold(alloc, &WHOLE)?);
+    assert!(rt; files_hold(alloc, &TOML)?);
+    assert!(rt; are_alike(alloc, &ALIKE)?);
+    assert!(rt; changes_hold(alloc, &FORMAT_AND_NAMES)?);
+    assert!(rt; changes_hold(alloc, &FILES)?);
+    assert!(rt; changes_hold(alloc, &ENTRIES)?);
     Ok(())
 }
 
 #[test]
-fn keeps_limits(rt: HostRuntime) -> Result<(), Fail> {
-    assert_limits(&rt, rt.alloc(), &MOST)?;
-    assert_limits(&rt, rt.alloc(), &LONGEST)?;
+fn parts_of_tests(rt: HostRuntime) -> Result<(), Fail> {
+    let alloc = rt.alloc();
+    assert!(rt; changes_hold(alloc, &ENVIRONMENT)?);
+    assert!(rt; changes_hold(alloc, &TESTS)?);
+    assert!(rt; changes_hold(alloc, &CALLS)?);
+    assert!(rt; changes_hold(alloc, &ANSWERS)?);
+    assert!(rt; changes_hold(alloc, &FIRST_OF_TWO)?);
+    Ok(())
+}
+
+#[test]
+fn limits(rt: HostRuntime) -> Result<(), Fail> {
+    let alloc = rt.alloc();
+    assert!(rt; limits_hold(alloc, &MOST)?);
+    assert!(rt; limits_hold(alloc, &LONGEST)?);
+    assert!(rt; limits_hold(alloc, &NESTED)?);
+    assert!(rt; shown_nested(alloc, 80)?.as_str() == "J1 format");
+    assert!(rt; shown_nested(alloc, 81)?.as_str() == "not TOML");
     Ok(())
 }

@@ -1,4 +1,4 @@
--- Turns of the loops over items, components and tests.
+-- Rounds of the loops over items, components and tests.
 use Rattle.std.proofs.Common.{◌≡◌, ℕ, ◌+◌, ◌<◌, ◌≤◌, Bool, true, ◌&&◌, nat_lt, cond, List, [], ◌∷◌, ◌++◌, length, map, drop, get_or, Option, None, refl, ap, sym, ◌∙◌, append_assoc}
 use Rattle.std.proofs.lemmas.List.{drop_more, drop_all, append-nil}
 use Rattle.std.proofs.lemmas.Bool.{and_parts}
@@ -13,7 +13,7 @@ use Rattle.cc_project.specs.Order.{at, array_rules, at_each, at_each_new, compon
 use Rattle.cc_project.specs.Outcome.{Reports}
 use Rattle.cc_project.specs.Views.{all_data, texts_of}
 use Rattle.cc_project.specs.declared.fault.ProjectFault.{ProjectFault}
-use Rattle.cc_project.proofs.Firsts.{Fault, turn_fails, turn_holds}
+use Rattle.cc_project.proofs.Firsts.{Fault, round_fails, round_holds}
 
 -- ---- What is left of a list
 
@@ -35,7 +35,7 @@ pub each_fails : (key : List ℕ) (n : ℕ) (test : Data → Bool) (k : ℕ) (vs
     → holds ≡ test (view value) → Reports (first_failing (at (item_key key k) n holds)) e → Reports whole e
 each_fails key n test k vs value whole e holds below is left same r =
     let more = at_each key n test (k + 1) (all_data (drop (k + 1) vs)) in
-    turn_fails _ (at (item_key key k) n holds) more whole e left
+    round_fails _ (at (item_key key k) n holds) more whole e left
     (ap (λ ds. first_failing (at_each key n test k ds)) (data_left vs k value below is) ∙ ap (λ b. first_failing (at (item_key key k) n b ++ more)) (sym same)) r
 
 pub each_holds : (key : List ℕ) (n : ℕ) (test : Data → Bool) (k : ℕ) (vs : List Value) (value : Value) (whole : Option Fault) (holds : Bool)
@@ -44,7 +44,7 @@ pub each_holds : (key : List ℕ) (n : ℕ) (test : Data → Bool) (k : ℕ) (vs
     → first_failing (at_each key n test (k + 1) (all_data (drop (k + 1) vs))) ≡ whole
 each_holds key n test k vs value whole holds below is left same none =
     let more = at_each key n test (k + 1) (all_data (drop (k + 1) vs)) in
-    turn_holds _ (at (item_key key k) n holds) more whole left
+    round_holds _ (at (item_key key k) n holds) more whole left
     (ap (λ ds. first_failing (at_each key n test k ds)) (data_left vs k value below is) ∙ ap (λ b. first_failing (at (item_key key k) n b ++ more)) (sym same)) none
 
 pub each_ends : (key : List ℕ) (n : ℕ) (test : Data → Bool) (k : ℕ) (vs : List Value) (whole : Option Fault)
@@ -59,7 +59,7 @@ pub new_fails : (key : List ℕ) (n : ℕ) (test : List (List ℕ) → List ℕ 
     → holds ≡ test before (text_of (view value)) → Reports (first_failing (at (item_key key k) n holds)) e → Reports whole e
 new_fails key n test k before vs value whole e holds below is left same r =
     let more = at_each_new key n test (k + 1) (before ++ text_of (view value) ∷ []) (texts_of (drop (k + 1) vs)) in
-    turn_fails _ (at (item_key key k) n holds) more whole e left
+    round_fails _ (at (item_key key k) n holds) more whole e left
     (ap (λ ds. first_failing (at_each_new key n test k before (map text_of ds))) (data_left vs k value below is) ∙ ap (λ b. first_failing (at (item_key key k) n b ++ more)) (sym same)) r
 
 pub new_holds : (key : List ℕ) (n : ℕ) (test : List (List ℕ) → List ℕ → Bool) (k : ℕ) (before after : List (List ℕ)) (vs : List Value) (value : Value) (whole : Option Fault) (holds : Bool)
@@ -69,7 +69,7 @@ pub new_holds : (key : List ℕ) (n : ℕ) (test : List (List ℕ) → List ℕ 
 new_holds key n test k before after vs value whole holds below is left same none grown =
     let more = at_each_new key n test (k + 1) (before ++ text_of (view value) ∷ []) (texts_of (drop (k + 1) vs)) in
     ap (λ seen. first_failing (at_each_new key n test (k + 1) seen (texts_of (drop (k + 1) vs)))) grown ∙
-    turn_holds _ (at (item_key key k) n holds) more whole left
+    round_holds _ (at (item_key key k) n holds) more whole left
     (ap (λ ds. first_failing (at_each_new key n test k before (map text_of ds))) (data_left vs k value below is) ∙ ap (λ b. first_failing (at (item_key key k) n b ++ more)) (sym same)) none
 
 pub new_ends : (key : List ℕ) (n : ℕ) (test : List (List ℕ) → List ℕ → Bool) (k : ℕ) (before : List (List ℕ)) (vs : List Value) (whole : Option Fault)
@@ -122,7 +122,7 @@ pub component_fails : (i : ℕ) (names files : List (List ℕ)) (vs : List Value
     → i < length vs → value ≡ get_or vs i value → first_failing (components_rules i names files (all_data (drop i vs))) ≡ whole
     → Reports (first_failing (component_rules i names files (view value))) e → Reports whole e
 component_fails i names files vs value whole e below is left r =
-    turn_fails _ (component_rules i names files (view value)) _ whole e left (ap (λ ds. first_failing (components_rules i names files ds)) (data_left vs i value below is)) r
+    round_fails _ (component_rules i names files (view value)) _ whole e left (ap (λ ds. first_failing (components_rules i names files ds)) (data_left vs i value below is)) r
 
 pub component_holds : (i : ℕ) (names files names' files' : List (List ℕ)) (vs : List Value) (value : Value) (whole : Option Fault)
     → i < length vs → value ≡ get_or vs i value → first_failing (components_rules i names files (all_data (drop i vs))) ≡ whole
@@ -131,7 +131,7 @@ pub component_holds : (i : ℕ) (names files names' files' : List (List ℕ)) (v
 component_holds i names files names' files' vs value whole below is left none named filed =
     ap (λ seen. first_failing (components_rules (i + 1) seen files' (all_data (drop (i + 1) vs)))) named
     ∙ ap (λ seen. first_failing (components_rules (i + 1) (names ++ name_of (view value) ∷ []) seen (all_data (drop (i + 1) vs)))) filed
-    ∙ turn_holds _ (component_rules i names files (view value)) _ whole left (ap (λ ds. first_failing (components_rules i names files ds)) (data_left vs i value below is)) none
+    ∙ round_holds _ (component_rules i names files (view value)) _ whole left (ap (λ ds. first_failing (components_rules i names files ds)) (data_left vs i value below is)) none
 
 pub components_end : (i : ℕ) (names files : List (List ℕ)) (vs : List Value) (whole : Option Fault)
     → length vs ≤ i → first_failing (components_rules i names files (all_data (drop i vs))) ≡ whole → whole ≡ None
@@ -142,7 +142,7 @@ pub test_fails : (i : ℕ) (names : List (List ℕ)) (vs : List Value) (value : 
     → i < length vs → value ≡ get_or vs i value → first_failing (tests_rules i names (all_data (drop i vs))) ≡ whole
     → Reports (first_failing (test_rules i names (view value))) e → Reports whole e
 test_fails i names vs value whole e below is left r =
-    turn_fails _ (test_rules i names (view value)) _ whole e left (ap (λ ds. first_failing (tests_rules i names ds)) (data_left vs i value below is)) r
+    round_fails _ (test_rules i names (view value)) _ whole e left (ap (λ ds. first_failing (tests_rules i names ds)) (data_left vs i value below is)) r
 
 pub test_holds : (i : ℕ) (names names' : List (List ℕ)) (vs : List Value) (value : Value) (whole : Option Fault)
     → i < length vs → value ≡ get_or vs i value → first_failing (tests_rules i names (all_data (drop i vs))) ≡ whole
@@ -150,7 +150,7 @@ pub test_holds : (i : ℕ) (names names' : List (List ℕ)) (vs : List Value) (v
     → first_failing (tests_rules (i + 1) names' (all_data (drop (i + 1) vs))) ≡ whole
 test_holds i names names' vs value whole below is left none named =
     ap (λ seen. first_failing (tests_rules (i + 1) seen (all_data (drop (i + 1) vs)))) named
-    ∙ turn_holds _ (test_rules i names (view value)) _ whole left (ap (λ ds. first_failing (tests_rules i names ds)) (data_left vs i value below is)) none
+    ∙ round_holds _ (test_rules i names (view value)) _ whole left (ap (λ ds. first_failing (tests_rules i names ds)) (data_left vs i value below is)) none
 
 pub tests_end : (i : ℕ) (names : List (List ℕ)) (vs : List Value) (whole : Option Fault)
     → length vs ≤ i → first_failing (tests_rules i names (all_data (drop i vs))) ≡ whole → whole ≡ None

@@ -1,10 +1,12 @@
 // The rules of `docs/tokens.md` by examples, worked out by hand.
 
-use super::*;
 use cc_base::Spot;
+use cc_lex::{LexFault, Token, TokenKind, TokenList, banned, is_keyword, lex, spot_of};
 use std::alloc::Global;
-use std::process::Abort;
 use std::test::Fail;
+
+/// The most bytes of a text.
+const MOST_BYTES: usize = 1048576;
 
 // Each row is a text and what `shown` gives.
 
@@ -223,6 +225,22 @@ const STRAY_BYTES: [(&[u8], &str); 8] = [
     (b"a $", "L1 at 2"),
 ];
 
+/// The 46 punctuators, in the order of C17 6.4.6.
+const PUNCTUATORS: [(&[u8], &str); 3] = [
+    (
+        b"[ ] ( ) { } . -> ++ -- & * + - ~ !",
+        "1:1 LeftBracket, 1:3 RightBracket, 1:5 LeftParen, 1:7 RightParen, 1:9 LeftBrace, 1:11 RightBrace, 1:13 Dot, 1:15 Arrow, 1:18 PlusPlus, 1:21 MinusMinus, 1:24 And, 1:26 Star, 1:28 Plus, 1:30 Minus, 1:32 Tilde, 1:34 Not",
+    ),
+    (
+        b"/ % << >> < > <= >= == != ^ | && || ?",
+        "1:1 Slash, 1:3 Percent, 1:5 ShiftLeft, 1:8 ShiftRight, 1:11 Less, 1:13 Greater, 1:15 LessEqual, 1:18 GreaterEqual, 1:21 EqualEqual, 1:24 NotEqual, 1:27 Caret, 1:29 Or, 1:31 AndAnd, 1:34 OrOr, 1:37 Question",
+    ),
+    (
+        b": ; ... = *= /= %= += -= <<= >>= &= ^= |= ,",
+        "1:1 Colon, 1:3 Semicolon, 1:5 Ellipsis, 1:9 Equal, 1:11 StarEqual, 1:14 SlashEqual, 1:17 PercentEqual, 1:20 PlusEqual, 1:23 MinusEqual, 1:26 ShiftLeftEqual, 1:30 ShiftRightEqual, 1:34 AndEqual, 1:37 CaretEqual, 1:40 OrEqual, 1:43 Comma, C13 at token 2",
+    ),
+];
+
 /// White bytes, lines and columns.
 const PLACES: [(&[u8], &str); 1] = [(b"\ta \x0b\x0c\r\n  b\n\nc", "1:2 a, 2:3 b, 4:1 c")];
 
@@ -246,7 +264,7 @@ const BANNED: [(&[u8], &str); 4] = [
     ),
 ];
 
-// Each row is a word and the rule that it meets; the last is all the other keywords.
+// Each row is a word and the rule that it meets.
 
 const BANNED_C1_TO_C8: [(&[u8], u8); 12] = [
     (b"float", 1),
@@ -263,7 +281,7 @@ const BANNED_C1_TO_C8: [(&[u8], u8); 12] = [
     (b"_Thread_local", 8),
 ];
 
-const BANNED_C9_TO_C14: [(&[u8], u8); 11] = [
+const BANNED_C9_TO_C14: [(&[u8], u8); 10] = [
     (b"_Alignas", 9),
     (b"_Alignof", 9),
     (b"_Generic", 10),
@@ -274,123 +292,11 @@ const BANNED_C9_TO_C14: [(&[u8], u8); 11] = [
     (b"__asm", 14),
     (b"__asm__", 14),
     (b"__attribute__", 14),
-    (
-        b"break case char const continue default do else enum extern for if inline int long return short signed sizeof static struct switch typedef unsigned void while _Bool",
-        0,
-    ),
 ];
 
-// The keywords in the order of C17 6.4.1.
-
-const KEYWORDS_1: [(&[u8], Keyword); 15] = [
-    (b"auto", Keyword::Auto),
-    (b"break", Keyword::Break),
-    (b"case", Keyword::Case),
-    (b"char", Keyword::Char),
-    (b"const", Keyword::Const),
-    (b"continue", Keyword::Continue),
-    (b"default", Keyword::Default),
-    (b"do", Keyword::Do),
-    (b"double", Keyword::Double),
-    (b"else", Keyword::Else),
-    (b"enum", Keyword::Enum),
-    (b"extern", Keyword::Extern),
-    (b"float", Keyword::Float),
-    (b"for", Keyword::For),
-    (b"goto", Keyword::Goto),
-];
-
-const KEYWORDS_2: [(&[u8], Keyword); 15] = [
-    (b"if", Keyword::If),
-    (b"inline", Keyword::Inline),
-    (b"int", Keyword::Int),
-    (b"long", Keyword::Long),
-    (b"register", Keyword::Register),
-    (b"restrict", Keyword::Restrict),
-    (b"return", Keyword::Return),
-    (b"short", Keyword::Short),
-    (b"signed", Keyword::Signed),
-    (b"sizeof", Keyword::Sizeof),
-    (b"static", Keyword::Static),
-    (b"struct", Keyword::Struct),
-    (b"switch", Keyword::Switch),
-    (b"typedef", Keyword::Typedef),
-    (b"union", Keyword::Union),
-];
-
-const KEYWORDS_3: [(&[u8], Keyword); 14] = [
-    (b"unsigned", Keyword::Unsigned),
-    (b"void", Keyword::Void),
-    (b"volatile", Keyword::Volatile),
-    (b"while", Keyword::While),
-    (b"_Alignas", Keyword::Alignas),
-    (b"_Alignof", Keyword::Alignof),
-    (b"_Atomic", Keyword::Atomic),
-    (b"_Bool", Keyword::Bool),
-    (b"_Complex", Keyword::Complex),
-    (b"_Generic", Keyword::Generic),
-    (b"_Imaginary", Keyword::Imaginary),
-    (b"_Noreturn", Keyword::Noreturn),
-    (b"_Static_assert", Keyword::StaticAssert),
-    (b"_Thread_local", Keyword::ThreadLocal),
-];
-
-// The punctuators in the order of C17 6.4.6.
-
-const PUNCTUATORS_1: [(&[u8], Punct); 16] = [
-    (b"[", Punct::LeftBracket),
-    (b"]", Punct::RightBracket),
-    (b"(", Punct::LeftParen),
-    (b")", Punct::RightParen),
-    (b"{", Punct::LeftBrace),
-    (b"}", Punct::RightBrace),
-    (b".", Punct::Dot),
-    (b"->", Punct::Arrow),
-    (b"++", Punct::PlusPlus),
-    (b"--", Punct::MinusMinus),
-    (b"&", Punct::And),
-    (b"*", Punct::Star),
-    (b"+", Punct::Plus),
-    (b"-", Punct::Minus),
-    (b"~", Punct::Tilde),
-    (b"!", Punct::Not),
-];
-
-const PUNCTUATORS_2: [(&[u8], Punct); 15] = [
-    (b"/", Punct::Slash),
-    (b"%", Punct::Percent),
-    (b"<<", Punct::ShiftLeft),
-    (b">>", Punct::ShiftRight),
-    (b"<", Punct::Less),
-    (b">", Punct::Greater),
-    (b"<=", Punct::LessEqual),
-    (b">=", Punct::GreaterEqual),
-    (b"==", Punct::EqualEqual),
-    (b"!=", Punct::NotEqual),
-    (b"^", Punct::Caret),
-    (b"|", Punct::Or),
-    (b"&&", Punct::AndAnd),
-    (b"||", Punct::OrOr),
-    (b"?", Punct::Question),
-];
-
-const PUNCTUATORS_3: [(&[u8], Punct); 15] = [
-    (b":", Punct::Colon),
-    (b";", Punct::Semicolon),
-    (b"...", Punct::Ellipsis),
-    (b"=", Punct::Equal),
-    (b"*=", Punct::StarEqual),
-    (b"/=", Punct::SlashEqual),
-    (b"%=", Punct::PercentEqual),
-    (b"+=", Punct::PlusEqual),
-    (b"-=", Punct::MinusEqual),
-    (b"<<=", Punct::ShiftLeftEqual),
-    (b">>=", Punct::ShiftRightEqual),
-    (b"&=", Punct::AndEqual),
-    (b"^=", Punct::CaretEqual),
-    (b"|=", Punct::OrEqual),
-    (b",", Punct::Comma),
-];
+/// The keywords that meet no rule; the other 17 stand above.
+const ALLOWED: &str =
+    "break case char const continue default do else enum extern for if inline int long return short signed sizeof static struct switch typedef unsigned void while _Bool";
 
 /// A text, an offset, and the line and the column there.
 const SPOTS: [(&[u8], u64, Spot); 6] = [
@@ -420,7 +326,7 @@ fn shown_token(alloc: Global, token: &Token) -> Result<String, Fail> {
 
 /// What `lex` and `banned` answer.
 fn shown(alloc: Global, bytes: &[u8]) -> Result<String, Fail> {
-    if bytes.len() > 1048576 {
+    if bytes.len() > MOST_BYTES {
         return Ok(format!(in alloc; "too long")?);
     }
     let tokens = match lex(alloc, bytes) {
@@ -441,117 +347,107 @@ fn shown(alloc: Global, bytes: &[u8]) -> Result<String, Fail> {
     Ok(text)
 }
 
-/// Asserts what `shown` gives for each row.
-fn assert_rows(rt: &impl Abort, alloc: Global, rows: &[(&[u8], &str)]) -> Result<(), Fail> {
-    for row in rows {
-        let text = shown(alloc, row.0)?;
-        assert_eq!(rt; text.as_str(), row.1, "{:?}", row.0);
-    }
-    Ok(())
-}
-
 /// The tokens of the bytes, if they have a cut.
 fn cut(alloc: Global, bytes: &[u8]) -> Option<TokenList> {
-    if bytes.len() > 1048576 {
+    if bytes.len() > MOST_BYTES {
         return None;
     }
     lex(alloc, bytes).ok()
 }
 
-/// The keyword that is the only token of the bytes.
-fn only_keyword(alloc: Global, bytes: &[u8]) -> Option<Keyword> {
-    let tokens = cut(alloc, bytes)?;
-    if tokens.len() != 1 {
-        return None;
-    }
-    match &tokens.get(0).kind {
-        TokenKind::Keyword(keyword) => Some(*keyword),
-        _ => None,
-    }
-}
-
-/// The punctuator that is the only token of the bytes.
-fn only_punct(alloc: Global, bytes: &[u8]) -> Option<Punct> {
-    let tokens = cut(alloc, bytes)?;
-    if tokens.len() != 1 {
-        return None;
-    }
-    match &tokens.get(0).kind {
-        TokenKind::Punct(punct) => Some(*punct),
-        _ => None,
-    }
-}
-
-fn assert_keywords(rt: &impl Abort, alloc: Global, rows: &[(&[u8], Keyword)]) {
+/// Whether `shown` gives for each row what stands there.
+fn rows_hold(alloc: Global, rows: &[(&[u8], &str)]) -> Result<bool, Fail> {
     for row in rows {
-        assert_eq!(rt; only_keyword(alloc, row.0), Some(row.1), "{:?}", row.0);
-        assert!(rt; is_keyword(row.0), "{:?}", row.0);
+        if shown(alloc, row.0)?.as_str() != row.1 {
+            return Ok(false);
+        }
     }
+    Ok(true)
 }
 
-fn assert_punctuators(rt: &impl Abort, alloc: Global, rows: &[(&[u8], Punct)]) {
+/// Whether the first token of each row, and no earlier one, meets the rule.
+fn rules_hold(alloc: Global, rows: &[(&[u8], u8)]) -> bool {
     for row in rows {
-        assert_eq!(rt; only_punct(alloc, row.0), Some(row.1), "{:?}", row.0);
-    }
-}
-
-/// Asserts that the first token meets the rule, or with 0 that none meets one.
-fn assert_banned(rt: &impl Abort, alloc: Global, rows: &[(&[u8], u8)]) {
-    for row in rows {
-        let tokens = cut(alloc, row.0);
-        assert!(rt; tokens.is_some(), "{:?}", row.0);
-        let found = match tokens {
+        let found = match cut(alloc, row.0) {
             None => None,
             Some(tokens) => banned(&tokens),
         };
-        let expected = if row.1 == 0 { None } else { Some((0, row.1)) };
-        assert_eq!(rt; found, expected, "{:?}", row.0);
+        if found != Some((0, row.1)) {
+            return false;
+        }
+    }
+    true
+}
+
+/// Whether the text is of so many words, each a keyword by its spelling, and none of which meets a rule.
+fn are_allowed_keywords(alloc: Global, text: &str, count: usize) -> bool {
+    let mut words = text.split_whitespace();
+    for _ in 0..count {
+        match words.next() {
+            Some(word) if is_keyword(word.as_bytes()) => {}
+            _ => return false,
+        }
+    }
+    match cut(alloc, text.as_bytes()) {
+        None => false,
+        Some(tokens) => tokens.len() == count as u64 && banned(&tokens).is_none(),
     }
 }
 
-fn assert_spots(rt: &impl Abort, rows: &[(&[u8], u64, Spot)]) {
+/// Whether each offset has the line and the column of its row.
+fn spots_hold(rows: &[(&[u8], u64, Spot)]) -> bool {
     for row in rows {
-        let is_within = row.0.len() <= 1048576 && row.1 <= row.0.len() as u64;
-        assert!(rt; is_within, "{:?}", row.0);
-        assert_eq!(rt; spot_of(row.0, row.1), row.2, "{:?}", row.0);
+        if row.0.len() > MOST_BYTES
+            || row.1 > row.0.len() as u64
+            || spot_of(row.0, row.1) != row.2
+        {
+            return false;
+        }
     }
+    true
 }
 
 #[test]
-fn cuts_texts(rt: HostRuntime) -> Result<(), Fail> {
-    assert_rows(&rt, rt.alloc(), &FIRST_FAULTS)?;
-    assert_rows(&rt, rt.alloc(), &LONGEST)?;
-    assert_rows(&rt, rt.alloc(), &NO_CONSTANTS)?;
-    assert_rows(&rt, rt.alloc(), &CONSTANTS)?;
-    assert_rows(&rt, rt.alloc(), &CHARACTERS)?;
-    assert_rows(&rt, rt.alloc(), &NO_CHARACTERS)?;
-    assert_rows(&rt, rt.alloc(), &STRINGS)?;
-    assert_rows(&rt, rt.alloc(), &PREFIXES)?;
-    assert_rows(&rt, rt.alloc(), &COMMENTS)?;
-    assert_rows(&rt, rt.alloc(), &SKIPPED_LINES)?;
-    assert_rows(&rt, rt.alloc(), &SPLICES_AND_TRIGRAPHS)?;
-    assert_rows(&rt, rt.alloc(), &DIGRAPHS)?;
-    assert_rows(&rt, rt.alloc(), &STRAY_BYTES)?;
-    assert_rows(&rt, rt.alloc(), &PLACES)?;
-    assert_rows(&rt, rt.alloc(), &BANNED)?;
+fn longest_tokens(rt: HostRuntime) -> Result<(), Fail> {
+    let alloc = rt.alloc();
+    assert!(rt; rows_hold(alloc, &FIRST_FAULTS)?);
+    assert!(rt; rows_hold(alloc, &LONGEST)?);
+    assert!(rt; rows_hold(alloc, &PUNCTUATORS)?);
+    assert!(rt; rows_hold(alloc, &DIGRAPHS)?);
+    assert!(rt; rows_hold(alloc, &STRAY_BYTES)?);
     Ok(())
 }
 
 #[test]
-fn knows_each_word(rt: HostRuntime) {
-    assert_keywords(&rt, rt.alloc(), &KEYWORDS_1);
-    assert_keywords(&rt, rt.alloc(), &KEYWORDS_2);
-    assert_keywords(&rt, rt.alloc(), &KEYWORDS_3);
-    assert!(rt; !is_keyword(b"Int"));
-    assert!(rt; !is_keyword(b""));
-    assert_punctuators(&rt, rt.alloc(), &PUNCTUATORS_1);
-    assert_punctuators(&rt, rt.alloc(), &PUNCTUATORS_2);
-    assert_punctuators(&rt, rt.alloc(), &PUNCTUATORS_3);
-    assert_banned(&rt, rt.alloc(), &BANNED_C1_TO_C8);
-    assert_banned(&rt, rt.alloc(), &BANNED_C9_TO_C14);
+fn constants(rt: HostRuntime) -> Result<(), Fail> {
+    let alloc = rt.alloc();
+    assert!(rt; rows_hold(alloc, &NO_CONSTANTS)?);
+    assert!(rt; rows_hold(alloc, &CONSTANTS)?);
+    assert!(rt; rows_hold(alloc, &CHARACTERS)?);
+    assert!(rt; rows_hold(alloc, &NO_CHARACTERS)?);
+    assert!(rt; rows_hold(alloc, &STRINGS)?);
+    assert!(rt; rows_hold(alloc, &PREFIXES)?);
+    Ok(())
 }
 
 #[test]
-fn counts_lines_and_columns(rt: HostRuntime) {
-    assert_spots(&rt, &SPOTS);
+fn comments_and_lines(rt: HostRuntime) -> Result<(), Fail> {
+    let alloc = rt.alloc();
+    assert!(rt; rows_hold(alloc, &COMMENTS)?);
+    assert!(rt; rows_hold(alloc, &SKIPPED_LINES)?);
+    assert!(rt; rows_hold(alloc, &SPLICES_AND_TRIGRAPHS)?);
+    assert!(rt; rows_hold(alloc, &PLACES)?);
+    assert!(rt; spots_hold(&SPOTS));
+    Ok(())
+}
+
+#[test]
+fn the_words_of_the_profile(rt: HostRuntime) -> Result<(), Fail> {
+    let alloc = rt.alloc();
+    assert!(rt; rows_hold(alloc, &BANNED)?);
+    assert!(rt; rules_hold(alloc, &BANNED_C1_TO_C8));
+    assert!(rt; rules_hold(alloc, &BANNED_C9_TO_C14));
+    assert!(rt; are_allowed_keywords(alloc, ALLOWED, 27));
+    assert!(rt; !is_keyword(b"Int") && !is_keyword(b""));
+    Ok(())
 }
