@@ -13,15 +13,3 @@ pub fn one_unit()
 pub fn one_answer()
     ensures { OneAnswer }
 {}
-
-#[cfg(test)]
-mod tests {
-    use super::*;
-
-    // The laws do nothing; that they can be called is all that there is to see.
-    #[test]
-    fn laws() {
-        one_unit();
-        one_answer();
-    }
-}
