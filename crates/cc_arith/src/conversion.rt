@@ -16,7 +16,8 @@ pub fn convert(k: IntKind, v: i128) -> i128
     ensures within { IsInRange k result }
     ensures same { IsInRange k v → result ≡ v }
     ensures modulo { k ≢ IntKind.Bool → IsSameModulo (width_of k) v result }
-    ensures only { k ≢ IntKind.Bool → (r : ℤ) → IsInRange k r → IsSameModulo (width_of k) v r → r ≡ result }
+    ensures only { k ≢ IntKind.Bool → (r : ℤ) → IsInRange k r → IsSameModulo (width_of k) v r
+        → r ≡ result }
 {
     value_in(k, v)
 }

@@ -58,9 +58,11 @@ pub fn read_document(alloc: Global, bytes: &[u8]) -> Result<Option<Table>, Alloc
 /// an array of one file name. The two names differ, and so do the two files.
 pub fn read_project(document: &Table) -> Option<Project<'_>>
     ensures some { IfSome result (λ project.
-        (table_view document.now ≡ project_members (project_view project)) × IsWell (project_view project)) }
+        (table_view document.now ≡ project_members (project_view project))
+        × IsWell (project_view project)) }
     ensures none { IfNone result (
-        (project : ProjectData) → table_view document.now ≡ project_members project → IsWell project → ⊥) }
+        (project : ProjectData) → table_view document.now ≡ project_members project
+        → IsWell project → ⊥) }
 {
     let project = read_shape(document)?;
     if is_well(&project) {

@@ -236,8 +236,10 @@ fn calls_stand(alloc: Global, parts: &[Part<'_>]) -> Result<bool, AllocError>
 /// The error is want of memory.
 pub fn read_unit(alloc: Global, bytes: &[u8]) -> Result<Option<Vec<Part<'_>>>, AllocError>
     requires { length bytes.now ≤ limit }
-    ensures some { IfOk result (λ read. IfSome read (λ parts. IsUnit bytes.now (parts_view parts.items))) }
-    ensures none { IfOk result (λ read. IfNone read ((parts : List PartData) → IsUnit bytes.now parts → ⊥)) }
+    ensures some { IfOk result (λ read.
+        IfSome read (λ parts. IsUnit bytes.now (parts_view parts.items))) }
+    ensures none { IfOk result (λ read.
+        IfNone read ((parts : List PartData) → IsUnit bytes.now parts → ⊥)) }
 {
     let Some(tokens) = read_tokens(alloc, bytes)? else {
         return Ok(None);

@@ -115,7 +115,8 @@ pub fn run_events(
     calls: &[usize],
     turns: u32,
 ) -> Result<Told, AllocError>
-    ensures { IfOk result (λ told. told_view told ≡ run (program_view program.now) calls.now turns) }
+    ensures { IfOk result (λ told.
+        told_view told ≡ run (program_view program.now) calls.now turns) }
 {
     let mut machine = Machine {
         turns,

@@ -47,11 +47,13 @@ pub trait Shelf {
         ensures misses_stay { misses self.old ≤ misses self.new }
         ensures longs_stay { longs self.old ≤ longs self.new }
 
-        ensures failed { IsErrOf result ShelfFault.Failed → Rose (faults self.old) (faults self.new) }
+        ensures failed { IsErrOf result ShelfFault.Failed
+            → Rose (faults self.old) (faults self.new) }
         ensures absent { result ≡ Ok Found.Absent → Rose (misses self.old) (misses self.new) }
         ensures long { result ≡ Ok Found.Long → Rose (longs self.old) (longs self.new) }
 
         // A file is within the cap whether the files are told or not.
         ensures within { IfOk result (IsWithin cap) }
-        ensures told { IfSome (files self.old) (λ files. IfOk result (IsFoundIn files name.now cap)) };
+        ensures told { IfSome (files self.old) (λ files.
+            IfOk result (IsFoundIn files name.now cap)) };
 }

@@ -25,7 +25,9 @@ pub trait Sink {
     fn put(&mut self, bytes: &[u8]) -> Result<(), SinkFault>
         ensures faults_stay { faults self.old ≤ faults self.new }
         ensures ok { OnOk result (held self.new ≡ append_known (held self.old) bytes.now) }
-        ensures failed { IsErrOf result SinkFault.Failed → Rose (faults self.old) (faults self.new) }
-        ensures prefix { IsErrOf result SinkFault.Failed → GrowsByPrefix (held self.old) (held self.new) bytes.now }
+        ensures failed { IsErrOf result SinkFault.Failed
+            → Rose (faults self.old) (faults self.new) }
+        ensures prefix { IsErrOf result SinkFault.Failed
+            → GrowsByPrefix (held self.old) (held self.new) bytes.now }
         ensures memory { IsErrOf result SinkFault.Memory → held self.new ≡ held self.old };
 }

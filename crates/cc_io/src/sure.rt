@@ -41,7 +41,9 @@ impl SureShelf {
 
     /// Adds a file, or replaces it, and leaves the rest. After an error all is as it was.
     pub fn add(&mut self, name: &str, bytes: &[u8]) -> Result<(), Memory>
-        ensures ok { OnOk result (stock_of self.new ≡ record (stock_of self.old) { files = map.insert (stock_of self.old).files name.now bytes.now }) }
+        ensures ok { OnOk result (stock_of self.new ≡ record (stock_of self.old) {
+          files = map.insert (stock_of self.old).files name.now bytes.now;
+        }) }
         ensures err { OnErr result (stock_of self.new ≡ stock_of self.old) }
     {
         let name = String::from_str(self.alloc, name)?;

@@ -20,15 +20,18 @@ pub fn a_cut_is_where_no_offset_is_faulty()
 /// Each token of a cut stands at an offset: it is the longest there, and its spot is the one that `spot_of` tells of
 /// this offset.
 pub fn each_token_has_the_spot_of_its_offset()
-    ensures { (bytes : List ℕ) → (tokens : List Token) → Cut bytes tokens → (t : Token) → Contains tokens t → (offset : ℕ) × StandsAt bytes offset t }
+    ensures { (bytes : List ℕ) → (tokens : List Token) → Cut bytes tokens
+        → (t : Token) → Contains tokens t → (offset : ℕ) × StandsAt bytes offset t }
 {}
 
 /// The bytes before the place at which a fault is judged have a cut of their own, with the tokens of these pieces.
 pub fn the_bytes_before_a_fault_have_a_cut()
-    ensures { (bytes : List ℕ) → (pieces : List Piece) → (rest : List ℕ) → Cuts true pieces bytes rest → IsClean (spell pieces) → Cut (spell pieces) (tokens_from start pieces) }
+    ensures { (bytes : List ℕ) → (pieces : List Piece) → (rest : List ℕ)
+        → Cuts true pieces bytes rest → IsClean (spell pieces) → Cut (spell pieces) (tokens_from start pieces) }
 {}
 
 /// Each token of a cut has a name, a value and a type as a parser may take them.
 pub fn each_token_can_be_given()
-    ensures { (bytes : List ℕ) → (tokens : List Token) → Cut bytes tokens → (t : Token) → Contains tokens t → CanBeGiven t.kind }
+    ensures { (bytes : List ℕ) → (tokens : List Token) → Cut bytes tokens
+        → (t : Token) → Contains tokens t → CanBeGiven t.kind }
 {}

@@ -69,7 +69,8 @@ pub fn run<S: Shelf, K: Sink, E: Sink>(
         (K.held out.old) (K.held out.new) (E.held err.old) (E.held err.new) result) }
 
     // A file that the reading reaches and that is missing or too long is what is refused, where the status is below 4.
-    ensures reached { IfSome (S.files shelf.old) (λ files. RefusesReached (map string_bytes words.now) files
+    ensures reached { IfSome (S.files shelf.old) (λ files.
+        RefusesReached (map string_bytes words.now) files
         (K.held out.old) (K.held out.new) (E.held err.old) (E.held err.new) result) }
 
     // Soundness: where the status is 0, an out that tells its bytes has the table of a program that the files make, and each
@@ -88,7 +89,8 @@ pub fn run<S: Shelf, K: Sink, E: Sink>(
     // The status is at most 5, and 4 only where a count of faults rose.
     ensures most { result < 6 }
     ensures fault { result ≡ 4 →
-        (Rose (S.faults shelf.old) (S.faults shelf.new) ⊎ Rose (K.faults out.old) (K.faults out.new))
+        (Rose (S.faults shelf.old) (S.faults shelf.new)
+        ⊎ Rose (K.faults out.old) (K.faults out.new))
         ⊎ Rose (E.faults err.old) (E.faults err.new) }
 
     // The shelf's files stay as they are.
@@ -99,7 +101,8 @@ pub fn run<S: Shelf, K: Sink, E: Sink>(
         (shelf.new ≡ shelf.old) × (out.new ≡ out.old)
         × Reported usage_line 2 (E.held err.old) (E.held err.new)
         (E.faults err.old) (E.faults err.new) result }
-    ensures not_usage { result ≡ 2 → (project : List ℕ) → map string_bytes words.now ≢ list_words project }
+    ensures not_usage { result ≡ 2 → (project : List ℕ)
+        → map string_bytes words.now ≢ list_words project }
 {
     // The law that `sound` rests on.
     listed_leaves_none_out();

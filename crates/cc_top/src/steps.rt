@@ -241,8 +241,10 @@ pub fn text_for<S: Shelf>(
     ensures keeps { S.files shelf.new ≡ S.files shelf.old }
     ensures none_falls { NoneFalls (counts_of (S.faults shelf.old) (S.misses shelf.old) (S.longs shelf.old))
         (counts_of (S.faults shelf.new) (S.misses shelf.new) (S.longs shelf.new)) }
-    ensures told { IfSome (S.files shelf.old) (λ files. Tells (IsAnswer (map string_bytes words.now) files) result) }
-    ensures caused { IfErr result (Caused (counts_of (S.faults shelf.old) (S.misses shelf.old) (S.longs shelf.old))
+    ensures told { IfSome (S.files shelf.old) (λ files.
+        Tells (IsAnswer (map string_bytes words.now) files) result) }
+    ensures caused { IfErr result (Caused
+        (counts_of (S.faults shelf.old) (S.misses shelf.old) (S.longs shelf.old))
         (counts_of (S.faults shelf.new) (S.misses shelf.new) (S.longs shelf.new))) }
     ensures names { IfSome (S.files shelf.old) (λ files. IfErr result
         (FaultNames (Reads (map string_bytes words.now) files))) }
