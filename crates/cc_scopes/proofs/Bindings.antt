@@ -58,12 +58,17 @@ here_is_at_depth [] x = refl
 here_is_at_depth (None ∷ outside) x = not_further_in (depth_of outside) (binding_of outside x) (binding_is_within outside x)
 here_is_at_depth (Some d ∷ before) x = either_here (bytes_eq x d.0) (is_here before x) d.1 (depth_of before) (binding_of before x) (here_is_at_depth before x)
 
-module _ (innermost : List (Bor (List ℕ) × Option Binding)) (trail : List Step) (depth : ℕ) (agree : Agree innermost trail depth) where
-  pub declaration_in_map : (x : List ℕ) → declaration_in (binding_in innermost x) ≡ declaration_of (names_of trail) x
-  declaration_in_map x = ap declaration_in (agree.innermost_is x) ∙ sym (declaration_is_bound (names_of trail) x)
+module _ {innermost : List (Bor (List ℕ) × Option Binding)} {trail : List Step} {depth : ℕ} (agree : Agree innermost trail depth) {names : Names} (seen : names_of trail ≡ names) (x : List ℕ) {b : Option Binding} (bound : b ≡ binding_in innermost x) where
+  pub declaration_is_found : declaration_in b ≡ declaration_of names x
+  declaration_is_found =
+      ap declaration_in (bound ∙ agree.innermost_is x)
+      ∙ sym (declaration_is_bound (names_of trail) x)
+      ∙ ap (λ names. declaration_of names x) seen
 
-  pub is_at_in_map : (x : List ℕ) → is_at depth (binding_in innermost x) ≡ is_here (names_of trail) x
-  is_at_in_map x =
-      ap (λ k. is_at k (binding_in innermost x)) agree.depth_is
+  pub is_at_is_here : is_at depth b ≡ is_here names x
+  is_at_is_here =
+      ap (is_at depth) bound
+      ∙ ap (λ k. is_at k (binding_in innermost x)) agree.depth_is
       ∙ ap (is_at (depth_of (names_of trail))) (agree.innermost_is x)
       ∙ sym (here_is_at_depth (names_of trail) x)
+      ∙ ap (λ names. is_here names x) seen

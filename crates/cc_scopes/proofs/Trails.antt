@@ -1,7 +1,8 @@
 -- What a trail says when a step comes last or goes.
-use Rattle.std.proofs.Common.{◌≡◌, refl, ap, sym, ◌∙◌, ℕ, Bool, true, false, ◌≤◌, ◌+◌, ◌-◌, List, [], ◌∷◌, ◌++◌, if◌then◌else◌, arith}
+use Rattle.std.proofs.Common.{◌≡◌, refl, ap, sym, subst, ◌∙◌, ℕ, Bool, true, false, ◌≤◌, ◌+◌, ◌-◌, List, [], ◌∷◌, ◌++◌, if◌then◌else◌, arith}
 use Rattle.std.specs.Prelude.{Option, None, Some, Result, Ok, Err, OnOk, OnErr}
 use Rattle.std.specs.Borrow.{Bor}
+use Rattle.std.specs.Option.{option_to_list}
 use Rattle.std.specs.Str.{bytes_eq}
 use Rattle.std.proofs.lemmas.Slice.Eq.{bytes_eq-Decides}
 use Rattle.cc_scopes.specs.declared.innermost.Binding.{Binding}
@@ -76,41 +77,54 @@ asked_twice : {A : Type 0} (b : Bool) (v w o : A) → (if b then v else (if b th
 asked_twice true v w o = refl
 asked_twice false v w o = refl
 
-module _ (innermost : List (Bor (List ℕ) × Option Binding)) (trail : List Step) (depth : ℕ) where
-  pub a_name_goes : (x : Bor (List ℕ)) (d : ℕ) (hidden : Option Binding) → Agree innermost (trail ++ Name x d hidden ∷ []) depth
-      → (after : List (Bor (List ℕ) × Option Binding))
+-- the last step is taken from the trail
+pub last_step : (others : List Step) {trail : List Step} {o : Option Step} {s : Step} → trail ≡ others ++ option_to_list o → o ≡ Some s → trail ≡ others ++ s ∷ []
+last_step others taken is = taken ∙ ap (λ o. others ++ option_to_list o) is
+
+-- and what the names were before it
+pub names_before : (others : List Step) (s : Step) {trail : List Step} {names : Names} → trail ≡ others ++ s ∷ [] → names_of trail ≡ names → added_by s ∷ names_of others ≡ names
+names_before others s last seen = sym (names_of-append others s) ∙ ap names_of (sym last) ∙ seen
+
+module _ {innermost : List (Bor (List ℕ) × Option Binding)} {trail : List Step} {depth : ℕ} (agree : Agree innermost trail depth) (others : List Step) where
+  at_last : (s : Step) → trail ≡ others ++ s ∷ [] → Agree innermost (others ++ s ∷ []) depth
+  at_last s last = subst (λ steps. Agree innermost steps depth) last agree
+
+  pub a_name_goes : (x : Bor (List ℕ)) (d : ℕ) (hidden : Option Binding) → trail ≡ others ++ Name x d hidden ∷ []
+      → {after : List (Bor (List ℕ) × Option Binding)}
       → ((y : List ℕ) → binding_in after y ≡ (if bytes_eq y x.now then hidden else binding_in innermost y))
-      → Agree after trail depth
-  a_name_goes x d hidden agree after bound =
+      → Agree after others depth
+  a_name_goes x d hidden last bound =
       let s = Name x d hidden in
-      let know = all_but_the_last_know [] trail s agree.hidden_are in
+      let all = at_last s last in
+      let know = all_but_the_last_know [] others s all.hidden_are in
       record {
         innermost_is = λ y.
             bound y
-            ∙ ap (λ o. if bytes_eq y x.now then hidden else o) (agree.innermost_is y ∙ ap (λ names. binding_of names y) (names_of-append trail s))
-            ∙ asked_twice (bytes_eq y x.now) hidden (Some (record { declaration = d; depth = depth_of (names_of trail) })) (binding_of (names_of trail) y)
-            ∙ hidden_is_bound (names_of trail) x.now y hidden (bytes_eq y x.now) refl know.1;
+            ∙ ap (λ o. if bytes_eq y x.now then hidden else o) (all.innermost_is y ∙ ap (λ names. binding_of names y) (names_of-append others s))
+            ∙ asked_twice (bytes_eq y x.now) hidden (Some (record { declaration = d; depth = depth_of (names_of others) })) (binding_of (names_of others) y)
+            ∙ hidden_is_bound (names_of others) x.now y hidden (bytes_eq y x.now) refl know.1;
         hidden_are = know.0;
-        depth_is = agree.depth_is ∙ ap depth_of (names_of-append trail s);
+        depth_is = all.depth_is ∙ ap depth_of (names_of-append others s);
       }
 
-  pub the_last_name_is_bound : (x : Bor (List ℕ)) (d : ℕ) (hidden : Option Binding) → Agree innermost (trail ++ Name x d hidden ∷ []) depth → binding_in innermost x.now ≡ None → ⊥
-  the_last_name_is_bound x d hidden agree unbound =
+  pub the_last_name_is_bound : (x : Bor (List ℕ)) (d : ℕ) (hidden : Option Binding) → trail ≡ others ++ Name x d hidden ∷ [] → binding_in innermost x.now ≡ None → ⊥
+  the_last_name_is_bound x d hidden last unbound =
       let same : bytes_eq x.now x.now ≡ true = (bytes_eq-Decides x.now x.now).1 refl in
       let none =
       sym unbound
-      ∙ agree.innermost_is x.now
-      ∙ ap (λ names. binding_of names x.now) (names_of-append trail (Name x d hidden))
-      ∙ ap (λ b. if b then Some (record { declaration = d; depth = depth_of (names_of trail) }) else binding_of (names_of trail) x.now) same in
+      ∙ (at_last (Name x d hidden) last).innermost_is x.now
+      ∙ ap (λ names. binding_of names x.now) (names_of-append others (Name x d hidden))
+      ∙ ap (λ b. if b then Some (record { declaration = d; depth = depth_of (names_of others) }) else binding_of (names_of others) x.now) same in
       cc
 
-  pub a_block_goes : Agree innermost (trail ++ Block ∷ []) depth → (1 ≤ depth) × Agree innermost trail (depth - 1)
-  a_block_goes agree =
-      let deeper : depth ≡ depth_of (names_of trail) + 1 = agree.depth_is ∙ ap depth_of (names_of-append trail Block) in (
+  pub a_block_goes : trail ≡ others ++ Block ∷ [] → (1 ≤ depth) × Agree innermost others (depth - 1)
+  a_block_goes last =
+      let all = at_last Block last in
+      let deeper : depth ≡ depth_of (names_of others) + 1 = all.depth_is ∙ ap depth_of (names_of-append others Block) in (
         omega (arith, deeper),
         record {
-          innermost_is = λ y. agree.innermost_is y ∙ ap (λ names. binding_of names y) (names_of-append trail Block);
-          hidden_are = (all_but_the_last_know [] trail Block agree.hidden_are).0;
+          innermost_is = λ y. all.innermost_is y ∙ ap (λ names. binding_of names y) (names_of-append others Block);
+          hidden_are = (all_but_the_last_know [] others Block all.hidden_are).0;
           depth_is = omega (arith, deeper);
         },
       )
