@@ -1,0 +1,4 @@
+pub mod Insertions
+pub mod Bindings
+pub mod Blocks
+pub mod Trails
