@@ -1,4 +1,4 @@
--- The loops over the parts of a tree: what one more item does to a greatest or a sum, what stands when none is left, and that a
+-- The loops over the parts of a tree: what one more item does to a sum, what stands when none is left, and that a
 -- call on an item, or on the list that a node holds, comes nearer to the end.
 use Rattle.std.proofs.Common.{◌≡◌, ℕ, ◌+◌, ◌*◌, ◌-◌, ◌^◌, ◌<◌, ◌≤◌, max, min, List, [], ◌∷◌, length, drop, get_or, sym, ◌∙◌, ap, arith}
 use Rattle.std.proofs.lemmas.List.{drop_more, drop_all}
@@ -7,25 +7,6 @@ use borrow.Author.Sizes.{ranked_below, ranked_under}
 
 rest_at : {A : Type 0} (xs : List A) (i : ℕ) (x : A) → i < length xs → x ≡ get_or xs i x → drop i xs ≡ x ∷ drop (i + 1) xs
 rest_at xs i x h e = drop_more xs i x h ∙ ap (λ y. y ∷ drop (i + 1) xs) (sym e)
-
--- f of an item, F of a list: the greatest
-module _ {A : Type 0} (F : List A → ℕ) (f : A → ℕ) (more : (x : A) (xs : List A) → F (x ∷ xs) ≡ max (f x) (F xs)) (xs : List A) (i : ℕ) (n : ℕ) (so_far : max n (F (drop i xs)) ≡ F xs) where
-  pub greatest_next : (x : A) (d m : ℕ) → i < length xs → x ≡ get_or xs i x → d ≡ f x → m ≡ max d n → max m (F (drop (i + 1) xs)) ≡ F xs
-  greatest_next x d m h e p q =
-      let now = rw (rest_at xs i x h e) at so_far in
-      let step = more x (drop (i + 1) xs) in
-      omega (arith, now, step, p, q)
-
-  pub greatest_item : (x : A) (bound : ℕ) → i < length xs → x ≡ get_or xs i x → F xs < bound → f x < bound
-  greatest_item x bound h e small =
-      let now = rw (rest_at xs i x h e) at so_far in
-      let step = more x (drop (i + 1) xs) in
-      omega (arith, now, step, small)
-
-  pub greatest_all : F [] ≡ 0 → length xs ≤ i → n ≡ F xs
-  greatest_all none h =
-      let now = rw (drop_all i xs h) at so_far in
-      omega (arith, now, none)
 
 -- f of an item, F of a list: the sum, where 2^64 - 1 stands for more
 module _ {A : Type 0} (F : List A → ℕ) (f : A → ℕ) (more : (x : A) (xs : List A) → F (x ∷ xs) ≡ f x + F xs) (xs : List A) (i : ℕ) (n : ℕ) (so_far : min (n + F (drop i xs)) (2 ^ 64 - 1) ≡ min (F xs) (2 ^ 64 - 1)) where
