@@ -4,7 +4,7 @@ ghost use Rattle.cc_tree.specs.Nodes as nodes;
 ghost use Rattle.cc_tree.specs.Views.{view_value, view_init, view_declaration, values_of};
 ghost use Rattle.cc_tree_notes.specs.Numbering as spec;
 
-use crate::expr::{boxed_declarator, boxed_expr, number_specs};
+use crate::expr::{boxed_declarator, number_expr, number_specs};
 use crate::note::Counted;
 use cc_base::{Memory, Spot};
 use cc_tree::{Declaration, Init, Value};
@@ -18,7 +18,7 @@ fn number_value(alloc: Global, v: &Value<Spot>, next: &mut u32) -> Result<Value<
     ensures next { OnOk result (next.new ≡ next.old + nodes.value_nodes (view_value v.now)) }
 {
     match v {
-        Value::Expr(e) => Ok(Value::Expr(boxed_expr(alloc, e, next)?.into_inner())),
+        Value::Expr(e) => Ok(Value::Expr(number_expr(alloc, e, next)?)),
         Value::List(spot, values, trailing) => {
             let note = Counted::new(*spot, next);
             let values = number_values(alloc, values.as_slice(), next)?;

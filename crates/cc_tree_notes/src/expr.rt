@@ -15,15 +15,105 @@ use std::alloc::Global;
 
 /// The expression with a number in each node, the first of which is `next`, which is then the number after the last.
 /// Fails where memory is wanting; `next` is then any number.
+#[cycle(number)]
 pub fn number_expr(alloc: Global, e: &Expr<Spot>, next: &mut u32) -> Result<Expr<Counted>, Memory>
     requires { next.old + nodes.expr_nodes (view e.now) < 2 ^ 32 }
     ensures tree { IfOk result (λ r. (view r, next.new) ≡ numbered_expr (view e.now) next.old) }
     ensures next { OnOk result (next.new ≡ next.old + nodes.expr_nodes (view e.now)) }
 {
-    Ok(boxed_expr(alloc, e, next)?.into_inner())
+    match e {
+        Expr::Name(spot, name) => {
+            let note = Counted::new(*spot, next);
+            Ok(Expr::Name(note, copied_text(alloc, name)?))
+        }
+        Expr::Int(spot, value, kind) => Ok(Expr::Int(Counted::new(*spot, next), *value, *kind)),
+        Expr::Char(spot, value) => Ok(Expr::Char(Counted::new(*spot, next), *value)),
+        Expr::Str(spot, strings) => {
+            let note = Counted::new(*spot, next);
+            Ok(Expr::Str(note, copied_strings(alloc, strings)?))
+        }
+        Expr::Paren(spot, e) => {
+            let note = Counted::new(*spot, next);
+            let e = boxed_expr(alloc, e.get(), next)?;
+            Ok(Expr::Paren(note, e))
+        }
+        Expr::Unary(spot, op, e) => {
+            let note = Counted::new(*spot, next);
+            let e = boxed_expr(alloc, e.get(), next)?;
+            Ok(Expr::Unary(note, *op, e))
+        }
+        Expr::Binary(spot, op, left, right) => {
+            let note = Counted::new(*spot, next);
+            let left = boxed_expr(alloc, left.get(), next)?;
+            let right = boxed_expr(alloc, right.get(), next)?;
+            Ok(Expr::Binary(note, *op, left, right))
+        }
+        Expr::Assign(spot, op, left, right) => {
+            let note = Counted::new(*spot, next);
+            let left = boxed_expr(alloc, left.get(), next)?;
+            let right = boxed_expr(alloc, right.get(), next)?;
+            Ok(Expr::Assign(note, *op, left, right))
+        }
+        Expr::Step(spot, op, side, e) => {
+            let note = Counted::new(*spot, next);
+            let e = boxed_expr(alloc, e.get(), next)?;
+            Ok(Expr::Step(note, *op, *side, e))
+        }
+        Expr::Cond(spot, test, yes, no) => {
+            let note = Counted::new(*spot, next);
+            let test = boxed_expr(alloc, test.get(), next)?;
+            let yes = boxed_expr(alloc, yes.get(), next)?;
+            let no = boxed_expr(alloc, no.get(), next)?;
+            Ok(Expr::Cond(note, test, yes, no))
+        }
+        Expr::Comma(spot, left, right) => {
+            let note = Counted::new(*spot, next);
+            let left = boxed_expr(alloc, left.get(), next)?;
+            let right = boxed_expr(alloc, right.get(), next)?;
+            Ok(Expr::Comma(note, left, right))
+        }
+        Expr::Call(spot, f, args) => {
+            let note = Counted::new(*spot, next);
+            let f = boxed_expr(alloc, f.get(), next)?;
+            let args = number_exprs(alloc, args.as_slice(), next)?;
+            Ok(Expr::Call(note, f, args))
+        }
+        Expr::Member(spot, e, name) => {
+            let note = Counted::new(*spot, next);
+            let e = boxed_expr(alloc, e.get(), next)?;
+            Ok(Expr::Member(note, e, copied_text(alloc, name)?))
+        }
+        Expr::Arrow(spot, e, name) => {
+            let note = Counted::new(*spot, next);
+            let e = boxed_expr(alloc, e.get(), next)?;
+            Ok(Expr::Arrow(note, e, copied_text(alloc, name)?))
+        }
+        Expr::Index(spot, array, at) => {
+            let note = Counted::new(*spot, next);
+            let array = boxed_expr(alloc, array.get(), next)?;
+            let at = boxed_expr(alloc, at.get(), next)?;
+            Ok(Expr::Index(note, array, at))
+        }
+        Expr::Cast(spot, to, e) => {
+            let note = Counted::new(*spot, next);
+            let to = boxed_type(alloc, to.get(), next)?;
+            let e = boxed_expr(alloc, e.get(), next)?;
+            Ok(Expr::Cast(note, to, e))
+        }
+        Expr::SizeExpr(spot, e) => {
+            let note = Counted::new(*spot, next);
+            let e = boxed_expr(alloc, e.get(), next)?;
+            Ok(Expr::SizeExpr(note, e))
+        }
+        Expr::SizeType(spot, of) => {
+            let note = Counted::new(*spot, next);
+            let of = boxed_type(alloc, of.get(), next)?;
+            Ok(Expr::SizeType(note, of))
+        }
+    }
 }
 
-// A tree that waits for the next one stands in memory of its own: there it is dropped by a call, where the next fails.
+// A tree that waits for the next one stands in memory of its own: where the next fails, it is dropped there by a call.
 #[cycle(number)]
 pub(crate) fn boxed_expr(
     alloc: Global,
@@ -34,98 +124,8 @@ pub(crate) fn boxed_expr(
     ensures tree { IfOk result (λ r. (view r, next.new) ≡ spec.numbered_expr (view e.now) next.old) }
     ensures next { OnOk result (next.new ≡ next.old + nodes.expr_nodes (view e.now)) }
 {
-    match e {
-        Expr::Name(spot, name) => {
-            let note = Counted::new(*spot, next);
-            boxed(alloc, Expr::Name(note, copied_text(alloc, name)?))
-        }
-        Expr::Int(spot, value, kind) => {
-            boxed(alloc, Expr::Int(Counted::new(*spot, next), *value, *kind))
-        }
-        Expr::Char(spot, value) => boxed(alloc, Expr::Char(Counted::new(*spot, next), *value)),
-        Expr::Str(spot, strings) => {
-            let note = Counted::new(*spot, next);
-            boxed(alloc, Expr::Str(note, copied_strings(alloc, strings)?))
-        }
-        Expr::Paren(spot, e) => {
-            let note = Counted::new(*spot, next);
-            let e = boxed_expr(alloc, e.get(), next)?;
-            boxed(alloc, Expr::Paren(note, e))
-        }
-        Expr::Unary(spot, op, e) => {
-            let note = Counted::new(*spot, next);
-            let e = boxed_expr(alloc, e.get(), next)?;
-            boxed(alloc, Expr::Unary(note, *op, e))
-        }
-        Expr::Binary(spot, op, left, right) => {
-            let note = Counted::new(*spot, next);
-            let left = boxed_expr(alloc, left.get(), next)?;
-            let right = boxed_expr(alloc, right.get(), next)?;
-            boxed(alloc, Expr::Binary(note, *op, left, right))
-        }
-        Expr::Assign(spot, op, left, right) => {
-            let note = Counted::new(*spot, next);
-            let left = boxed_expr(alloc, left.get(), next)?;
-            let right = boxed_expr(alloc, right.get(), next)?;
-            boxed(alloc, Expr::Assign(note, *op, left, right))
-        }
-        Expr::Step(spot, op, side, e) => {
-            let note = Counted::new(*spot, next);
-            let e = boxed_expr(alloc, e.get(), next)?;
-            boxed(alloc, Expr::Step(note, *op, *side, e))
-        }
-        Expr::Cond(spot, test, yes, no) => {
-            let note = Counted::new(*spot, next);
-            let test = boxed_expr(alloc, test.get(), next)?;
-            let yes = boxed_expr(alloc, yes.get(), next)?;
-            let no = boxed_expr(alloc, no.get(), next)?;
-            boxed(alloc, Expr::Cond(note, test, yes, no))
-        }
-        Expr::Comma(spot, left, right) => {
-            let note = Counted::new(*spot, next);
-            let left = boxed_expr(alloc, left.get(), next)?;
-            let right = boxed_expr(alloc, right.get(), next)?;
-            boxed(alloc, Expr::Comma(note, left, right))
-        }
-        Expr::Call(spot, f, args) => {
-            let note = Counted::new(*spot, next);
-            let f = boxed_expr(alloc, f.get(), next)?;
-            let args = number_exprs(alloc, args.as_slice(), next)?;
-            boxed(alloc, Expr::Call(note, f, args))
-        }
-        Expr::Member(spot, e, name) => {
-            let note = Counted::new(*spot, next);
-            let e = boxed_expr(alloc, e.get(), next)?;
-            boxed(alloc, Expr::Member(note, e, copied_text(alloc, name)?))
-        }
-        Expr::Arrow(spot, e, name) => {
-            let note = Counted::new(*spot, next);
-            let e = boxed_expr(alloc, e.get(), next)?;
-            boxed(alloc, Expr::Arrow(note, e, copied_text(alloc, name)?))
-        }
-        Expr::Index(spot, array, at) => {
-            let note = Counted::new(*spot, next);
-            let array = boxed_expr(alloc, array.get(), next)?;
-            let at = boxed_expr(alloc, at.get(), next)?;
-            boxed(alloc, Expr::Index(note, array, at))
-        }
-        Expr::Cast(spot, to, e) => {
-            let note = Counted::new(*spot, next);
-            let to = boxed_type(alloc, to.get(), next)?;
-            let e = boxed_expr(alloc, e.get(), next)?;
-            boxed(alloc, Expr::Cast(note, to, e))
-        }
-        Expr::SizeExpr(spot, e) => {
-            let note = Counted::new(*spot, next);
-            let e = boxed_expr(alloc, e.get(), next)?;
-            boxed(alloc, Expr::SizeExpr(note, e))
-        }
-        Expr::SizeType(spot, of) => {
-            let note = Counted::new(*spot, next);
-            let of = boxed_type(alloc, of.get(), next)?;
-            boxed(alloc, Expr::SizeType(note, of))
-        }
-    }
+    let e = number_expr(alloc, e, next)?;
+    boxed(alloc, e)
 }
 
 #[cycle(number)]
@@ -140,7 +140,7 @@ fn number_exprs(
 {
     let mut numbered = Items::new(alloc);
     for e in es {
-        numbered.push(boxed_expr(alloc, e, next)?.into_inner())?;
+        numbered.push(number_expr(alloc, e, next)?)?;
     }
     Ok(numbered)
 }
@@ -162,6 +162,26 @@ fn number_option(
 }
 
 #[cycle(number)]
+fn number_type(
+    alloc: Global,
+    t: &TypeName<Spot>,
+    next: &mut u32,
+) -> Result<TypeName<Counted>, Memory>
+    requires { next.old + nodes.type_nodes (view_type t.now) < 2 ^ 32 }
+    ensures tree { IfOk result (λ r. (view_type r, next.new) ≡ spec.numbered_type (view_type t.now) next.old) }
+    ensures next { OnOk result (next.new ≡ next.old + nodes.type_nodes (view_type t.now)) }
+{
+    let note = Counted::new(t.note, next);
+    let specs = number_specs(alloc, t.specs.as_slice(), next)?;
+    let declarator = number_declarator(alloc, &t.declarator, next)?;
+    Ok(TypeName {
+        note,
+        specs,
+        declarator,
+    })
+}
+
+#[cycle(number)]
 fn boxed_type(
     alloc: Global,
     t: &TypeName<Spot>,
@@ -171,15 +191,8 @@ fn boxed_type(
     ensures tree { IfOk result (λ r. (view_type r, next.new) ≡ spec.numbered_type (view_type t.now) next.old) }
     ensures next { OnOk result (next.new ≡ next.old + nodes.type_nodes (view_type t.now)) }
 {
-    let note = Counted::new(t.note, next);
-    let specs = number_specs(alloc, t.specs.as_slice(), next)?;
-    let declarator = boxed_declarator(alloc, &t.declarator, next)?.into_inner();
-    let name = TypeName {
-        note,
-        specs,
-        declarator,
-    };
-    boxed(alloc, name)
+    let t = number_type(alloc, t, next)?;
+    boxed(alloc, t)
 }
 
 #[cycle(number)]
@@ -194,7 +207,7 @@ fn number_types(
 {
     let mut numbered = Items::new(alloc);
     for t in ts {
-        numbered.push(boxed_type(alloc, t, next)?.into_inner())?;
+        numbered.push(number_type(alloc, t, next)?)?;
     }
     Ok(numbered)
 }
@@ -309,6 +322,47 @@ fn number_constants(
 }
 
 #[cycle(number)]
+pub(crate) fn number_declarator(
+    alloc: Global,
+    d: &Declarator<Spot>,
+    next: &mut u32,
+) -> Result<Declarator<Counted>, Memory>
+    requires { next.old + nodes.declarator_nodes (view_declarator d.now) < 2 ^ 32 }
+    ensures tree { IfOk result (λ r. (view_declarator r, next.new) ≡ spec.numbered_declarator (view_declarator d.now) next.old) }
+    ensures next { OnOk result (next.new ≡ next.old + nodes.declarator_nodes (view_declarator d.now)) }
+{
+    match d {
+        Declarator::Name(spot, name) => {
+            let note = Counted::new(*spot, next);
+            Ok(Declarator::Name(note, copied_text(alloc, name)?))
+        }
+        Declarator::Nameless => Ok(Declarator::Nameless),
+        Declarator::Pointer(spot, consts, d) => {
+            let note = Counted::new(*spot, next);
+            let d = boxed_declarator(alloc, d.get(), next)?;
+            Ok(Declarator::Pointer(note, *consts, d))
+        }
+        Declarator::Array(spot, d, length) => {
+            let note = Counted::new(*spot, next);
+            let d = boxed_declarator(alloc, d.get(), next)?;
+            let length = number_option(alloc, length, next)?;
+            Ok(Declarator::Array(note, d, length))
+        }
+        Declarator::Func(spot, d, parameters) => {
+            let note = Counted::new(*spot, next);
+            let d = boxed_declarator(alloc, d.get(), next)?;
+            let parameters = number_types(alloc, parameters.as_slice(), next)?;
+            Ok(Declarator::Func(note, d, parameters))
+        }
+        Declarator::Paren(spot, d) => {
+            let note = Counted::new(*spot, next);
+            let d = boxed_declarator(alloc, d.get(), next)?;
+            Ok(Declarator::Paren(note, d))
+        }
+    }
+}
+
+#[cycle(number)]
 pub(crate) fn boxed_declarator(
     alloc: Global,
     d: &Declarator<Spot>,
@@ -318,35 +372,8 @@ pub(crate) fn boxed_declarator(
     ensures tree { IfOk result (λ r. (view_declarator r, next.new) ≡ spec.numbered_declarator (view_declarator d.now) next.old) }
     ensures next { OnOk result (next.new ≡ next.old + nodes.declarator_nodes (view_declarator d.now)) }
 {
-    match d {
-        Declarator::Name(spot, name) => {
-            let note = Counted::new(*spot, next);
-            boxed(alloc, Declarator::Name(note, copied_text(alloc, name)?))
-        }
-        Declarator::Nameless => boxed(alloc, Declarator::Nameless),
-        Declarator::Pointer(spot, consts, d) => {
-            let note = Counted::new(*spot, next);
-            let d = boxed_declarator(alloc, d.get(), next)?;
-            boxed(alloc, Declarator::Pointer(note, *consts, d))
-        }
-        Declarator::Array(spot, d, length) => {
-            let note = Counted::new(*spot, next);
-            let d = boxed_declarator(alloc, d.get(), next)?;
-            let length = number_option(alloc, length, next)?;
-            boxed(alloc, Declarator::Array(note, d, length))
-        }
-        Declarator::Func(spot, d, parameters) => {
-            let note = Counted::new(*spot, next);
-            let d = boxed_declarator(alloc, d.get(), next)?;
-            let parameters = number_types(alloc, parameters.as_slice(), next)?;
-            boxed(alloc, Declarator::Func(note, d, parameters))
-        }
-        Declarator::Paren(spot, d) => {
-            let note = Counted::new(*spot, next);
-            let d = boxed_declarator(alloc, d.get(), next)?;
-            boxed(alloc, Declarator::Paren(note, d))
-        }
-    }
+    let d = number_declarator(alloc, d, next)?;
+    boxed(alloc, d)
 }
 
 #[cycle(number)]
@@ -361,7 +388,7 @@ fn number_declarators(
 {
     let mut numbered = Items::new(alloc);
     for d in ds {
-        numbered.push(boxed_declarator(alloc, d, next)?.into_inner())?;
+        numbered.push(number_declarator(alloc, d, next)?)?;
     }
     Ok(numbered)
 }

@@ -6,7 +6,7 @@ ghost use Rattle.cc_tree_notes.specs.Numbering as spec;
 
 use crate::boxes::{boxed, unboxed};
 use crate::declaration::number_declaration;
-use crate::expr::boxed_expr;
+use crate::expr::{boxed_expr, number_expr};
 use crate::note::Counted;
 use cc_base::{Memory, Spot};
 use cc_tree::{Block, Expr, ForStart, Item, Stmt};
@@ -28,8 +28,8 @@ fn boxed_start(
             boxed(alloc, ForStart::Decl(d))
         }
         ForStart::Expr(e) => {
-            let e = boxed_expr(alloc, e, next)?;
-            boxed(alloc, ForStart::Expr(e.into_inner()))
+            let e = number_expr(alloc, e, next)?;
+            boxed(alloc, ForStart::Expr(e))
         }
         ForStart::Empty => boxed(alloc, ForStart::Empty),
     }
@@ -51,49 +51,48 @@ fn number_clause(
 }
 
 #[cycle(number)]
-fn boxed_stmt(alloc: Global, s: &Stmt<Spot>, next: &mut u32) -> Result<Boxed<Stmt<Counted>>, Memory>
+fn number_stmt(alloc: Global, s: &Stmt<Spot>, next: &mut u32) -> Result<Stmt<Counted>, Memory>
     requires { next.old + nodes.stmt_nodes (view_stmt s.now) < 2 ^ 32 }
     ensures tree { IfOk result (λ r. (view_stmt r, next.new) ≡ spec.numbered_stmt (view_stmt s.now) next.old) }
     ensures next { OnOk result (next.new ≡ next.old + nodes.stmt_nodes (view_stmt s.now)) }
 {
     match s {
-        Stmt::Block(b) => boxed(alloc, Stmt::Block(number_block(alloc, b, next)?)),
+        Stmt::Block(b) => Ok(Stmt::Block(number_block(alloc, b, next)?)),
         Stmt::Plain(spot, e) => {
             let note = Counted::new(*spot, next);
-            let e = boxed_expr(alloc, e, next)?;
-            boxed(alloc, Stmt::Plain(note, e.into_inner()))
+            Ok(Stmt::Plain(note, number_expr(alloc, e, next)?))
         }
-        Stmt::Empty(spot) => boxed(alloc, Stmt::Empty(Counted::new(*spot, next))),
+        Stmt::Empty(spot) => Ok(Stmt::Empty(Counted::new(*spot, next))),
         Stmt::If(spot, test, then) => {
             let note = Counted::new(*spot, next);
             let test = boxed_expr(alloc, test, next)?;
             let then = boxed_stmt(alloc, then.get(), next)?;
-            boxed(alloc, Stmt::If(note, test.into_inner(), then))
+            Ok(Stmt::If(note, test.into_inner(), then))
         }
         Stmt::IfElse(spot, test, then, other) => {
             let note = Counted::new(*spot, next);
             let test = boxed_expr(alloc, test, next)?;
             let then = boxed_stmt(alloc, then.get(), next)?;
             let other = boxed_stmt(alloc, other.get(), next)?;
-            boxed(alloc, Stmt::IfElse(note, test.into_inner(), then, other))
+            Ok(Stmt::IfElse(note, test.into_inner(), then, other))
         }
         Stmt::Switch(spot, e, body) => {
             let note = Counted::new(*spot, next);
             let e = boxed_expr(alloc, e, next)?;
             let body = number_block(alloc, body, next)?;
-            boxed(alloc, Stmt::Switch(note, e.into_inner(), body))
+            Ok(Stmt::Switch(note, e.into_inner(), body))
         }
         Stmt::While(spot, test, body) => {
             let note = Counted::new(*spot, next);
             let test = boxed_expr(alloc, test, next)?;
             let body = boxed_stmt(alloc, body.get(), next)?;
-            boxed(alloc, Stmt::While(note, test.into_inner(), body))
+            Ok(Stmt::While(note, test.into_inner(), body))
         }
         Stmt::Do(spot, body, test) => {
             let note = Counted::new(*spot, next);
             let body = boxed_stmt(alloc, body.get(), next)?;
             let test = boxed_expr(alloc, test, next)?;
-            boxed(alloc, Stmt::Do(note, body, test.into_inner()))
+            Ok(Stmt::Do(note, body, test.into_inner()))
         }
         Stmt::For(spot, start, test, each, body) => {
             let note = Counted::new(*spot, next);
@@ -101,19 +100,27 @@ fn boxed_stmt(alloc: Global, s: &Stmt<Spot>, next: &mut u32) -> Result<Boxed<Stm
             let test = number_clause(alloc, test, next)?;
             let each = number_clause(alloc, each, next)?;
             let body = boxed_stmt(alloc, body.get(), next)?;
-            boxed(
-                alloc,
-                Stmt::For(note, start.into_inner(), unboxed(test), unboxed(each), body),
-            )
+            let start = start.into_inner();
+            Ok(Stmt::For(note, start, unboxed(test), unboxed(each), body))
         }
-        Stmt::Break(spot) => boxed(alloc, Stmt::Break(Counted::new(*spot, next))),
-        Stmt::Continue(spot) => boxed(alloc, Stmt::Continue(Counted::new(*spot, next))),
+        Stmt::Break(spot) => Ok(Stmt::Break(Counted::new(*spot, next))),
+        Stmt::Continue(spot) => Ok(Stmt::Continue(Counted::new(*spot, next))),
         Stmt::Return(spot, e) => {
             let note = Counted::new(*spot, next);
             let e = number_clause(alloc, e, next)?;
-            boxed(alloc, Stmt::Return(note, unboxed(e)))
+            Ok(Stmt::Return(note, unboxed(e)))
         }
     }
+}
+
+#[cycle(number)]
+fn boxed_stmt(alloc: Global, s: &Stmt<Spot>, next: &mut u32) -> Result<Boxed<Stmt<Counted>>, Memory>
+    requires { next.old + nodes.stmt_nodes (view_stmt s.now) < 2 ^ 32 }
+    ensures tree { IfOk result (λ r. (view_stmt r, next.new) ≡ spec.numbered_stmt (view_stmt s.now) next.old) }
+    ensures next { OnOk result (next.new ≡ next.old + nodes.stmt_nodes (view_stmt s.now)) }
+{
+    let s = number_stmt(alloc, s, next)?;
+    boxed(alloc, s)
 }
 
 #[cycle(number)]
@@ -141,10 +148,10 @@ fn number_item(alloc: Global, i: &Item<Spot>, next: &mut u32) -> Result<Item<Cou
         Item::Decl(d) => Ok(Item::Decl(number_declaration(alloc, d, next)?)),
         Item::Case(spot, e) => {
             let note = Counted::new(*spot, next);
-            Ok(Item::Case(note, boxed_expr(alloc, e, next)?.into_inner()))
+            Ok(Item::Case(note, number_expr(alloc, e, next)?))
         }
         Item::Default(spot) => Ok(Item::Default(Counted::new(*spot, next))),
-        Item::Stmt(s) => Ok(Item::Stmt(boxed_stmt(alloc, s, next)?.into_inner())),
+        Item::Stmt(s) => Ok(Item::Stmt(number_stmt(alloc, s, next)?)),
     }
 }
 

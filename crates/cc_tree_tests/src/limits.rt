@@ -20,7 +20,8 @@ fn parts_fit(file: &Unit) -> bool {
     match file.externals.as_slice() {
         [_, External::Function(f)] => {
             let specs = f.specs.as_slice();
-            specs_fit(specs, 3) && !specs_fit(specs, 2)
+            specs_fit(specs, 3)
+                && !specs_fit(specs, 2)
                 && pointer_of(f).is_some_and(|d| declarator_fits(d, 2) && !declarator_fits(d, 1))
                 && size_expr(f).is_some_and(size_fits)
         }

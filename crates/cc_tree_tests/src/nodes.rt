@@ -11,9 +11,12 @@ use std::test::Fail;
 // Of `enum { A } x = { 7, };`.
 fn declaration_counts(d: &Declaration<Spot>) -> bool {
     match d.inits.as_slice() {
-        [Init { value: Some(braces), .. }] => {
-            declaration_nodes(d) == 6 && value_nodes(braces) == 2
-        }
+        [
+            Init {
+                value: Some(braces),
+                ..
+            },
+        ] => { declaration_nodes(d) == 6 && value_nodes(braces) == 2 }
         _ => false,
     }
 }

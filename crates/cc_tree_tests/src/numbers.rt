@@ -7,7 +7,7 @@ use cc_tree::{
 };
 use cc_tree_notes::{Counted, number_expr, number_file};
 use cc_tree_walks::{
-    block_note, constant_note, declaration_note, declarator_note, expr_note, expr_nodes,
+    block_note, constant_note, declaration_note, declarator_note, expr_nodes, expr_note,
     external_note, file_nodes, item_note, member_note, spec_note, stmt_note, type_note, value_note,
 };
 use sqlite_items::Boxed;
@@ -16,10 +16,11 @@ use std::test::Fail;
 
 // Whether this is the note of node `number`, at this place.
 fn is(note: &Counted, line: u32, column: u32, number: u32) -> bool {
-    *note == Counted {
-        spot: Spot { line, column },
-        number,
-    }
+    *note
+        == Counted {
+            spot: Spot { line, column },
+            number,
+        }
 }
 
 fn declarator_is(d: &Declarator<Counted>, line: u32, column: u32, number: u32) -> bool {
@@ -61,7 +62,12 @@ fn has_braces(braces: &Value<Counted>) -> bool {
 // `enum { A } x = { 7, };`: 4 to 9.
 fn has_declaration(d: &Declaration<Counted>) -> bool {
     match d.inits.as_slice() {
-        [Init { declarator, value: Some(value) }] => {
+        [
+            Init {
+                declarator,
+                value: Some(value),
+            },
+        ] => {
             is(declaration_note(d), 1, 1, 4)
                 && has_enumeration(d.specs.as_slice())
                 && declarator_is(declarator, 1, 12, 7)
@@ -122,7 +128,8 @@ fn has_label(label: &Item<Counted>) -> bool {
     match label {
         Item::Case(_, size) => match size {
             Expr::SizeType(_, t) => {
-                is(item_note(label), 2, 39, 22) && is(expr_note(size), 2, 44, 23)
+                is(item_note(label), 2, 39, 22)
+                    && is(expr_note(size), 2, 44, 23)
                     && has_type(t.get())
             }
             _ => false,
@@ -135,8 +142,7 @@ fn has_label(label: &Item<Counted>) -> bool {
 fn has_inner(inner: &Block<Counted>) -> bool {
     match inner.items.as_slice() {
         [label, empty] => {
-            is(block_note(inner), 2, 37, 21) && has_label(label)
-                && is(item_note(empty), 2, 58, 26)
+            is(block_note(inner), 2, 37, 21) && has_label(label) && is(item_note(empty), 2, 58, 26)
         }
         _ => false,
     }

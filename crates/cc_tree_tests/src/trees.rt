@@ -121,7 +121,10 @@ fn body(alloc: Global) -> Result<Items<Item<Spot>>, Memory> {
         note: at(2, 37),
         items: two(alloc, first, second)?,
     };
-    one(alloc, Item::Stmt(Stmt::Switch(at(2, 26), seven(at(2, 34)), inner)))
+    one(
+        alloc,
+        Item::Stmt(Stmt::Switch(at(2, 26), seven(at(2, 34)), inner)),
+    )
 }
 
 fn function(alloc: Global) -> Result<Boxed<External<Spot>>, Memory> {
