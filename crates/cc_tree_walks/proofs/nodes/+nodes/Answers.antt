@@ -1,7 +1,8 @@
 use Rattle.std.proofs.Common.{rules, arith, refl}
 use Rattle.cc_tree.specs.Views.{view, view_type, view_spec, view_member, view_constant, view_declarator, exprs_of, types_of, specs_of, members_of, constants_of, declarators_of}
 use Rattle.cc_tree.specs.Nodes as spec
-use Rattle.cc_tree_walks.proofs.Loops.{sum_next, sum_all, fits, item_falls}
+use Rattle.cc_tree.proofs.Loops.{item_falls}
+use Rattle.cc_tree_walks.proofs.Loops.{sum_next, sum_all, fits}
 use Rattle.cc_tree_walks.proofs.nodes.+nodes.Goals as goal
 
 pub exprs_nodes-loop-e-preserved : goal.exprs_nodes-loop-e-preserved

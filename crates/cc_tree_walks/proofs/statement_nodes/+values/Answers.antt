@@ -1,7 +1,8 @@
 use Rattle.std.proofs.Common.{rules, arith, refl}
 use Rattle.cc_tree.specs.Views.{view_value, values_of}
 use Rattle.cc_tree.specs.Nodes as spec
-use Rattle.cc_tree_walks.proofs.Loops.{sum_next, sum_all, fits, item_falls}
+use Rattle.cc_tree.proofs.Loops.{item_falls}
+use Rattle.cc_tree_walks.proofs.Loops.{sum_next, sum_all, fits}
 use Rattle.cc_tree_walks.proofs.Seen.{braces_are}
 use Rattle.cc_tree_walks.proofs.statement_nodes.+values.Goals as goal
 
