@@ -31,7 +31,7 @@ impl CType {
         }
     }
 
-    /// The same type, const or not. Takes no memory.
+    /// This type made const, or not const (C17 6.7.3), with nothing else changed. Takes no memory.
     pub fn with_const(self, is_const: bool) -> CType
         ensures { types.view_ctype result ≡ types.with_const is_const (types.view_ctype self) }
     {

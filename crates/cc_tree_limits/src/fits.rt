@@ -6,7 +6,7 @@ ghost use Rattle.cc_tree.specs.Depth as spec;
 use cc_tree::{Constant, Declarator, Expr, Member, Spec, TypeName};
 use sqlite_items::Boxed;
 
-/// Whether an expression is no deeper than `most`. The walk goes no deeper either.
+/// Whether an expression is no deeper than `most` nodes, itself included. The walk goes no deeper either.
 #[cycle(fits)]
 pub fn expr_fits<N>(e: &Expr<N>, most: u32) -> bool
     ensures { IsTrue result ↔ (spec.expr_depth (view e.now) ≤ most) }
@@ -57,7 +57,7 @@ fn option_fits<N>(e: &Option<Boxed<Expr<N>>>, most: u32) -> bool
     }
 }
 
-/// The same of a type name.
+/// Whether a type name is no deeper than `most` nodes. It doesn't count itself, nor does a specifier of one word.
 #[cycle(fits)]
 pub fn type_fits<N>(t: &TypeName<N>, most: u32) -> bool
     ensures { IsTrue result ↔ (spec.type_depth (view_type t.now) ≤ most) }
@@ -88,7 +88,7 @@ fn spec_fits<N>(s: &Spec<N>, most: u32) -> bool
     }
 }
 
-/// The same of specifiers.
+/// Whether each of the specifiers is no deeper than `most` nodes. They don't count themselves; a list in braces does.
 #[cycle(fits)]
 pub fn specs_fit<N>(ss: &[Spec<N>], most: u32) -> bool
     ensures { IsTrue result ↔ (spec.specs_depth (specs_of ss.now) ≤ most) }
@@ -146,7 +146,7 @@ fn constants_fit<N>(cs: &[Constant<N>], most: u32) -> bool
     true
 }
 
-/// The same of a declarator.
+/// Whether a declarator is no deeper than `most` nodes. Each form counts, and so does the name; where no name is, nothing.
 #[cycle(fits)]
 pub fn declarator_fits<N>(d: &Declarator<N>, most: u32) -> bool
     ensures { IsTrue result ↔ (spec.declarator_depth (view_declarator d.now) ≤ most) }

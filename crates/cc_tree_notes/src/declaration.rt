@@ -4,10 +4,10 @@ ghost use Rattle.cc_tree.specs.Nodes as nodes;
 ghost use Rattle.cc_tree.specs.Views.{view_value, view_init, view_declaration, values_of};
 ghost use Rattle.cc_tree_notes.specs.Numbering as spec;
 
-use crate::expr::{number_declarator, number_expr, number_specs};
+use crate::expr::{boxed_declarator, number_expr, number_specs};
 use crate::note::Counted;
-use cc_tree::{Declaration, Init, Value};
 use cc_base::{Memory, Spot};
+use cc_tree::{Declaration, Init, Value};
 use sqlite_items::Items;
 use std::alloc::Global;
 
@@ -64,9 +64,12 @@ fn number_init(alloc: Global, i: &Init<Spot>, next: &mut u32) -> Result<Init<Cou
     ensures tree { IfOk result (λ r. (view_init r, next.new) ≡ spec.numbered_init (view_init i.now) next.old) }
     ensures next { OnOk result (next.new ≡ next.old + nodes.init_nodes (view_init i.now)) }
 {
-    let declarator = number_declarator(alloc, &i.declarator, next)?;
+    let declarator = boxed_declarator(alloc, &i.declarator, next)?;
     let value = number_given(alloc, &i.value, next)?;
-    Ok(Init { declarator, value })
+    Ok(Init {
+        declarator: declarator.into_inner(),
+        value,
+    })
 }
 
 fn number_inits(

@@ -3,111 +3,129 @@ ghost use Rattle.std.specs.Prelude.{◌≡◌, ◌+◌, ◌<◌, ◌^◌, map, I
 ghost use Rattle.cc_tree.specs.Nodes as nodes;
 ghost use Rattle.cc_tree.specs.Views.{view, view_type, view_spec, view_member, view_constant, view_declarator, exprs_of, option_of, types_of, specs_of, members_of, constants_of, declarators_of};
 ghost use Rattle.cc_tree_notes.specs.Numbering as spec;
+ghost use Rattle.cc_tree_notes.specs.Numbering.{numbered_expr};
 
+use crate::boxes::boxed;
 use crate::note::Counted;
-use cc_tree::{Constant, Declarator, Expr, Member, Spec, TypeName};
-use cc_tree_make as make;
 use cc_base::{Memory, Spot};
+use cc_tree::{Constant, Declarator, Expr, Member, Spec, TypeName};
+use cc_tree_make::{copied_strings, copied_tag, copied_text};
 use sqlite_items::{Boxed, Items};
 use std::alloc::Global;
 
 /// The expression with a number in each node, the first of which is `next`, which is then the number after the last.
+/// Fails where memory is wanting; `next` is then any number.
 #[cycle(number)]
 pub fn number_expr(alloc: Global, e: &Expr<Spot>, next: &mut u32) -> Result<Expr<Counted>, Memory>
     requires { next.old + nodes.expr_nodes (view e.now) < 2 ^ 32 }
-    ensures tree { IfOk result (λ r. (view r, next.new) ≡ spec.numbered_expr (view e.now) next.old) }
+    ensures tree { IfOk result (λ r. (view r, next.new) ≡ numbered_expr (view e.now) next.old) }
     ensures next { OnOk result (next.new ≡ next.old + nodes.expr_nodes (view e.now)) }
 {
     match e {
         Expr::Name(spot, name) => {
             let note = Counted::new(*spot, next);
-            Ok(Expr::Name(note, make::copied_text(alloc, name)?))
+            Ok(Expr::Name(note, copied_text(alloc, name)?))
         }
         Expr::Int(spot, value, kind) => Ok(Expr::Int(Counted::new(*spot, next), *value, *kind)),
         Expr::Char(spot, value) => Ok(Expr::Char(Counted::new(*spot, next), *value)),
         Expr::Str(spot, strings) => {
             let note = Counted::new(*spot, next);
-            Ok(Expr::Str(note, make::copied_strings(alloc, strings)?))
+            Ok(Expr::Str(note, copied_strings(alloc, strings)?))
         }
         Expr::Paren(spot, e) => {
             let note = Counted::new(*spot, next);
-            let e = number_expr(alloc, e.get(), next)?;
-            make::paren(alloc, note, e)
+            let e = boxed_expr(alloc, e.get(), next)?;
+            Ok(Expr::Paren(note, e))
         }
         Expr::Unary(spot, op, e) => {
             let note = Counted::new(*spot, next);
-            let e = number_expr(alloc, e.get(), next)?;
-            make::unary(alloc, note, *op, e)
+            let e = boxed_expr(alloc, e.get(), next)?;
+            Ok(Expr::Unary(note, *op, e))
         }
         Expr::Binary(spot, op, left, right) => {
             let note = Counted::new(*spot, next);
-            let left = number_expr(alloc, left.get(), next)?;
-            let right = number_expr(alloc, right.get(), next)?;
-            make::binary(alloc, note, *op, left, right)
+            let left = boxed_expr(alloc, left.get(), next)?;
+            let right = boxed_expr(alloc, right.get(), next)?;
+            Ok(Expr::Binary(note, *op, left, right))
         }
         Expr::Assign(spot, op, left, right) => {
             let note = Counted::new(*spot, next);
-            let left = number_expr(alloc, left.get(), next)?;
-            let right = number_expr(alloc, right.get(), next)?;
-            make::assign(alloc, note, *op, left, right)
+            let left = boxed_expr(alloc, left.get(), next)?;
+            let right = boxed_expr(alloc, right.get(), next)?;
+            Ok(Expr::Assign(note, *op, left, right))
         }
         Expr::Step(spot, op, side, e) => {
             let note = Counted::new(*spot, next);
-            let e = number_expr(alloc, e.get(), next)?;
-            make::step(alloc, note, *op, *side, e)
+            let e = boxed_expr(alloc, e.get(), next)?;
+            Ok(Expr::Step(note, *op, *side, e))
         }
         Expr::Cond(spot, test, yes, no) => {
             let note = Counted::new(*spot, next);
-            let test = number_expr(alloc, test.get(), next)?;
-            let yes = number_expr(alloc, yes.get(), next)?;
-            let no = number_expr(alloc, no.get(), next)?;
-            make::choice(alloc, note, test, yes, no)
+            let test = boxed_expr(alloc, test.get(), next)?;
+            let yes = boxed_expr(alloc, yes.get(), next)?;
+            let no = boxed_expr(alloc, no.get(), next)?;
+            Ok(Expr::Cond(note, test, yes, no))
         }
         Expr::Comma(spot, left, right) => {
             let note = Counted::new(*spot, next);
-            let left = number_expr(alloc, left.get(), next)?;
-            let right = number_expr(alloc, right.get(), next)?;
-            make::comma(alloc, note, left, right)
+            let left = boxed_expr(alloc, left.get(), next)?;
+            let right = boxed_expr(alloc, right.get(), next)?;
+            Ok(Expr::Comma(note, left, right))
         }
         Expr::Call(spot, f, args) => {
             let note = Counted::new(*spot, next);
-            let f = number_expr(alloc, f.get(), next)?;
+            let f = boxed_expr(alloc, f.get(), next)?;
             let args = number_exprs(alloc, args.as_slice(), next)?;
-            make::call(alloc, note, f, args)
+            Ok(Expr::Call(note, f, args))
         }
         Expr::Member(spot, e, name) => {
             let note = Counted::new(*spot, next);
-            let e = number_expr(alloc, e.get(), next)?;
-            make::member(alloc, note, e, make::copied_text(alloc, name)?)
+            let e = boxed_expr(alloc, e.get(), next)?;
+            Ok(Expr::Member(note, e, copied_text(alloc, name)?))
         }
         Expr::Arrow(spot, e, name) => {
             let note = Counted::new(*spot, next);
-            let e = number_expr(alloc, e.get(), next)?;
-            make::arrow(alloc, note, e, make::copied_text(alloc, name)?)
+            let e = boxed_expr(alloc, e.get(), next)?;
+            Ok(Expr::Arrow(note, e, copied_text(alloc, name)?))
         }
         Expr::Index(spot, array, at) => {
             let note = Counted::new(*spot, next);
-            let array = number_expr(alloc, array.get(), next)?;
-            let at = number_expr(alloc, at.get(), next)?;
-            make::index(alloc, note, array, at)
+            let array = boxed_expr(alloc, array.get(), next)?;
+            let at = boxed_expr(alloc, at.get(), next)?;
+            Ok(Expr::Index(note, array, at))
         }
         Expr::Cast(spot, to, e) => {
             let note = Counted::new(*spot, next);
-            let to = number_type(alloc, to.get(), next)?;
-            let e = number_expr(alloc, e.get(), next)?;
-            make::cast(alloc, note, to, e)
+            let to = boxed_type(alloc, to.get(), next)?;
+            let e = boxed_expr(alloc, e.get(), next)?;
+            Ok(Expr::Cast(note, to, e))
         }
         Expr::SizeExpr(spot, e) => {
             let note = Counted::new(*spot, next);
-            let e = number_expr(alloc, e.get(), next)?;
-            make::size_expr(alloc, note, e)
+            let e = boxed_expr(alloc, e.get(), next)?;
+            Ok(Expr::SizeExpr(note, e))
         }
         Expr::SizeType(spot, of) => {
             let note = Counted::new(*spot, next);
-            let of = number_type(alloc, of.get(), next)?;
-            make::size_type(alloc, note, of)
+            let of = boxed_type(alloc, of.get(), next)?;
+            Ok(Expr::SizeType(note, of))
         }
     }
+}
+
+// A tree that waits for the next one stands in memory of its own: where the next fails, it is dropped there by a call.
+#[cycle(number)]
+pub(crate) fn boxed_expr(
+    alloc: Global,
+    e: &Expr<Spot>,
+    next: &mut u32,
+) -> Result<Boxed<Expr<Counted>>, Memory>
+    requires { next.old + nodes.expr_nodes (view e.now) < 2 ^ 32 }
+    ensures tree { IfOk result (λ r. (view r, next.new) ≡ spec.numbered_expr (view e.now) next.old) }
+    ensures next { OnOk result (next.new ≡ next.old + nodes.expr_nodes (view e.now)) }
+{
+    let e = number_expr(alloc, e, next)?;
+    boxed(alloc, e)
 }
 
 #[cycle(number)]
@@ -132,14 +150,14 @@ fn number_option(
     alloc: Global,
     e: &Option<Boxed<Expr<Spot>>>,
     next: &mut u32,
-) -> Result<Option<Expr<Counted>>, Memory>
+) -> Result<Option<Boxed<Expr<Counted>>>, Memory>
     requires { next.old + nodes.option_nodes (option_of e.now) < 2 ^ 32 }
     ensures tree { IfOk result (λ r. (option_of r, next.new) ≡ spec.numbered_option (option_of e.now) next.old) }
     ensures next { OnOk result (next.new ≡ next.old + nodes.option_nodes (option_of e.now)) }
 {
     match e {
         None => Ok(None),
-        Some(e) => Ok(Some(number_expr(alloc, e.get(), next)?)),
+        Some(e) => Ok(Some(boxed_expr(alloc, e.get(), next)?)),
     }
 }
 
@@ -161,6 +179,20 @@ fn number_type(
         specs,
         declarator,
     })
+}
+
+#[cycle(number)]
+fn boxed_type(
+    alloc: Global,
+    t: &TypeName<Spot>,
+    next: &mut u32,
+) -> Result<Boxed<TypeName<Counted>>, Memory>
+    requires { next.old + nodes.type_nodes (view_type t.now) < 2 ^ 32 }
+    ensures tree { IfOk result (λ r. (view_type r, next.new) ≡ spec.numbered_type (view_type t.now) next.old) }
+    ensures next { OnOk result (next.new ≡ next.old + nodes.type_nodes (view_type t.now)) }
+{
+    let t = number_type(alloc, t, next)?;
+    boxed(alloc, t)
 }
 
 #[cycle(number)]
@@ -190,17 +222,18 @@ fn number_spec(alloc: Global, s: &Spec<Spot>, next: &mut u32) -> Result<Spec<Cou
         Spec::Word(spot, word) => Ok(Spec::Word(Counted::new(*spot, next), *word)),
         Spec::Named(spot, name) => {
             let note = Counted::new(*spot, next);
-            Ok(Spec::Named(note, make::copied_text(alloc, name)?))
+            Ok(Spec::Named(note, copied_text(alloc, name)?))
         }
         Spec::Struct(spot, tag, members) => {
             let note = Counted::new(*spot, next);
-            let members = number_members(alloc, members.as_slice(), next)?;
-            Ok(Spec::Struct(note, make::copied_tag(alloc, tag)?, members))
+            let tag = copied_tag(alloc, tag)?;
+            Ok(Spec::Struct(note, tag, number_members(alloc, members.as_slice(), next)?))
         }
         Spec::Enum(spot, tag, constants, trailing) => {
             let note = Counted::new(*spot, next);
+            let tag = copied_tag(alloc, tag)?;
             let constants = number_constants(alloc, constants.as_slice(), next)?;
-            Ok(Spec::Enum(note, make::copied_tag(alloc, tag)?, constants, *trailing))
+            Ok(Spec::Enum(note, tag, constants, *trailing))
         }
     }
 }
@@ -266,8 +299,9 @@ fn number_constant(
     ensures next { OnOk result (next.new ≡ next.old + nodes.constant_nodes (view_constant c.now)) }
 {
     let note = Counted::new(c.note, next);
+    let name = copied_text(alloc, &c.name)?;
     let value = number_option(alloc, &c.value, next)?;
-    make::constant(alloc, note, make::copied_text(alloc, &c.name)?, value)
+    Ok(Constant { note, name, value })
 }
 
 #[cycle(number)]
@@ -300,32 +334,46 @@ pub(crate) fn number_declarator(
     match d {
         Declarator::Name(spot, name) => {
             let note = Counted::new(*spot, next);
-            Ok(Declarator::Name(note, make::copied_text(alloc, name)?))
+            Ok(Declarator::Name(note, copied_text(alloc, name)?))
         }
         Declarator::Nameless => Ok(Declarator::Nameless),
         Declarator::Pointer(spot, consts, d) => {
             let note = Counted::new(*spot, next);
-            let d = number_declarator(alloc, d.get(), next)?;
-            make::pointer(alloc, note, *consts, d)
+            let d = boxed_declarator(alloc, d.get(), next)?;
+            Ok(Declarator::Pointer(note, *consts, d))
         }
         Declarator::Array(spot, d, length) => {
             let note = Counted::new(*spot, next);
-            let d = number_declarator(alloc, d.get(), next)?;
+            let d = boxed_declarator(alloc, d.get(), next)?;
             let length = number_option(alloc, length, next)?;
-            make::array(alloc, note, d, length)
+            Ok(Declarator::Array(note, d, length))
         }
         Declarator::Func(spot, d, parameters) => {
             let note = Counted::new(*spot, next);
-            let d = number_declarator(alloc, d.get(), next)?;
+            let d = boxed_declarator(alloc, d.get(), next)?;
             let parameters = number_types(alloc, parameters.as_slice(), next)?;
-            make::function(alloc, note, d, parameters)
+            Ok(Declarator::Func(note, d, parameters))
         }
         Declarator::Paren(spot, d) => {
             let note = Counted::new(*spot, next);
-            let d = number_declarator(alloc, d.get(), next)?;
-            make::grouped(alloc, note, d)
+            let d = boxed_declarator(alloc, d.get(), next)?;
+            Ok(Declarator::Paren(note, d))
         }
     }
+}
+
+#[cycle(number)]
+pub(crate) fn boxed_declarator(
+    alloc: Global,
+    d: &Declarator<Spot>,
+    next: &mut u32,
+) -> Result<Boxed<Declarator<Counted>>, Memory>
+    requires { next.old + nodes.declarator_nodes (view_declarator d.now) < 2 ^ 32 }
+    ensures tree { IfOk result (λ r. (view_declarator r, next.new) ≡ spec.numbered_declarator (view_declarator d.now) next.old) }
+    ensures next { OnOk result (next.new ≡ next.old + nodes.declarator_nodes (view_declarator d.now)) }
+{
+    let d = number_declarator(alloc, d, next)?;
+    boxed(alloc, d)
 }
 
 #[cycle(number)]

@@ -5,13 +5,12 @@
 //! caller says, so that one count can go over many files.
 #![tactic(auto)]
 
+mod boxes;
 mod declaration;
 mod expr;
 mod file;
 mod note;
 mod stmt;
-#[cfg(test)]
-mod tests;
 
 pub use expr::number_expr;
 pub use file::number_file;

@@ -1,31 +1,10 @@
--- The loops over the parts of a tree: what one more item does to a greatest or a sum, what stands when none is left, and that a
--- call on an item, or on the list that a node holds, comes nearer to the end.
+-- The loops over the parts of a tree: what one more item does to a sum, what stands when none is left, and that a
+-- call on the list that a node holds comes nearer to the end.
 use Rattle.std.proofs.Common.{◌≡◌, ℕ, ◌+◌, ◌*◌, ◌-◌, ◌^◌, ◌<◌, ◌≤◌, max, min, List, [], ◌∷◌, length, drop, get_or, sym, ◌∙◌, ap, arith}
-use Rattle.std.proofs.lemmas.List.{drop_more, drop_all}
-use denote.Param.Weighed.{most, at_most}
-use borrow.Author.Sizes.{ranked_below, ranked_under}
-
-rest_at : {A : Type 0} (xs : List A) (i : ℕ) (x : A) → i < length xs → x ≡ get_or xs i x → drop i xs ≡ x ∷ drop (i + 1) xs
-rest_at xs i x h e = drop_more xs i x h ∙ ap (λ y. y ∷ drop (i + 1) xs) (sym e)
-
--- f of an item, F of a list: the greatest
-module _ {A : Type 0} (F : List A → ℕ) (f : A → ℕ) (more : (x : A) (xs : List A) → F (x ∷ xs) ≡ max (f x) (F xs)) (xs : List A) (i : ℕ) (n : ℕ) (so_far : max n (F (drop i xs)) ≡ F xs) where
-  pub greatest_next : (x : A) (d m : ℕ) → i < length xs → x ≡ get_or xs i x → d ≡ f x → m ≡ max d n → max m (F (drop (i + 1) xs)) ≡ F xs
-  greatest_next x d m h e p q =
-      let now = rw (rest_at xs i x h e) at so_far in
-      let step = more x (drop (i + 1) xs) in
-      omega (arith, now, step, p, q)
-
-  pub greatest_item : (x : A) (bound : ℕ) → i < length xs → x ≡ get_or xs i x → F xs < bound → f x < bound
-  greatest_item x bound h e small =
-      let now = rw (rest_at xs i x h e) at so_far in
-      let step = more x (drop (i + 1) xs) in
-      omega (arith, now, step, small)
-
-  pub greatest_all : F [] ≡ 0 → length xs ≤ i → n ≡ F xs
-  greatest_all none h =
-      let now = rw (drop_all i xs h) at so_far in
-      omega (arith, now, none)
+use Rattle.std.proofs.lemmas.List.{drop_all}
+use Rattle.cc_tree.proofs.Loops.{rest_at}
+use denote.Param.Weighed.{most}
+use borrow.Author.Sizes.{ranked_under}
 
 -- f of an item, F of a list: the sum, where 2^64 - 1 stands for more
 module _ {A : Type 0} (F : List A → ℕ) (f : A → ℕ) (more : (x : A) (xs : List A) → F (x ∷ xs) ≡ f x + F xs) (xs : List A) (i : ℕ) (n : ℕ) (so_far : min (n + F (drop i xs)) (2 ^ 64 - 1) ≡ min (F xs) (2 ^ 64 - 1)) where
@@ -42,13 +21,6 @@ module _ {A : Type 0} (F : List A → ℕ) (f : A → ℕ) (more : (x : A) (xs :
 
 pub fits : (a m : ℕ) → m ≡ min a (2 ^ 64 - 1) → m < 2 ^ 64
 fits a m e = omega (arith, e)
-
--- an item's size is at most the list's, and the callee has the lower rank
-pub item_falls : {A : Type 0} (size : A → ℕ) (c r s : ℕ) (xs : List A) (i : ℕ) (x : A) (t : ℕ) → i < length xs → x ≡ get_or xs i x → c * most size xs + s ≡ t → r < s → c * size x + r < t
-item_falls size c r s xs i x t h e is p =
-    let small : size (get_or xs i x) ≤ most size xs = at_most size xs i x h in
-    let smaller : size x ≤ most size xs = rw e small in
-    rw (sym is) (ranked_below c r s (size x) (most size xs) p smaller)
 
 -- the list that a node of size m holds is smaller, whatever the callee's rank
 pub list_falls : {A : Type 0} (size : A → ℕ) (c r s : ℕ) (xs ys : List A) (m t : ℕ) → ys ≡ xs → m ≡ max 0 (max (most size xs) 0) + 1 → c * m + r ≡ t → s < c → c * most size ys + s < t

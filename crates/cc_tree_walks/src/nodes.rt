@@ -68,7 +68,7 @@ fn option_nodes<N>(e: &Option<Boxed<Expr<N>>>) -> u64
     }
 }
 
-/// The same of a type name.
+/// How many nodes the type name has, itself included; where there are 2^64 or more, 2^64 - 1.
 #[cycle(nodes)]
 pub fn type_nodes<N>(t: &TypeName<N>) -> u64
     ensures { result ≡ min (spec.type_nodes (view_type t.now)) (2 ^ 64 - 1) }
@@ -100,7 +100,7 @@ fn spec_nodes<N>(s: &Spec<N>) -> u64
     }
 }
 
-/// The same of specifiers.
+/// How many nodes the specifiers have together; where there are 2^64 or more, 2^64 - 1.
 #[cycle(nodes)]
 pub fn specs_nodes<N>(ss: &[Spec<N>]) -> u64
     ensures { result ≡ min (spec.specs_nodes (specs_of ss.now)) (2 ^ 64 - 1) }
@@ -150,7 +150,7 @@ fn constants_nodes<N>(cs: &[Constant<N>]) -> u64
     nodes
 }
 
-/// The same of a declarator.
+/// How many nodes the declarator has, one for each form and for the name; where there are 2^64 or more, 2^64 - 1.
 #[cycle(nodes)]
 pub fn declarator_nodes<N>(d: &Declarator<N>) -> u64
     ensures { result ≡ min (spec.declarator_nodes (view_declarator d.now)) (2 ^ 64 - 1) }

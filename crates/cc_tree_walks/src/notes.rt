@@ -8,7 +8,7 @@ use cc_tree::{
     Value,
 };
 
-/// The note of an expression: in a tree as it is written, its spot.
+/// The note of an expression (C17 6.5): in a tree as it is written, its spot.
 pub fn expr_note<N>(e: &Expr<N>) -> &N
     ensures { result.now ≡ spec.expr_note (view e.now) }
 {
@@ -34,14 +34,14 @@ pub fn expr_note<N>(e: &Expr<N>) -> &N
     }
 }
 
-/// The same of a type name or a parameter.
+/// The note of a type name (C17 6.7.7) or a parameter.
 pub fn type_note<N>(t: &TypeName<N>) -> &N
     ensures { result.now ≡ spec.type_note (view_type t.now) }
 {
     &t.note
 }
 
-/// The same of a specifier.
+/// The note of a specifier (C17 6.7p1).
 pub fn spec_note<N>(s: &Spec<N>) -> &N
     ensures { result.now ≡ spec.spec_note (view_spec s.now) }
 {
@@ -53,21 +53,21 @@ pub fn spec_note<N>(s: &Spec<N>) -> &N
     }
 }
 
-/// The same of members that are declared together.
+/// The note of members that are declared together (C17 6.7.2.1).
 pub fn member_note<N>(m: &Member<N>) -> &N
     ensures { result.now ≡ spec.member_note (view_member m.now) }
 {
     &m.note
 }
 
-/// The same of an enumeration constant.
+/// The note of an enumeration constant (C17 6.7.2.2).
 pub fn constant_note<N>(c: &Constant<N>) -> &N
     ensures { result.now ≡ spec.constant_note (view_constant c.now) }
 {
     &c.note
 }
 
-/// The same of a declarator's outermost form, or `None` where nothing is written.
+/// The note of a declarator's outermost form (C17 6.7.6), or `None` where no declarator is written.
 pub fn declarator_note<N>(d: &Declarator<N>) -> Option<&N>
     ensures { option_copied result ≡ spec.declarator_note (view_declarator d.now) }
 {
@@ -81,7 +81,7 @@ pub fn declarator_note<N>(d: &Declarator<N>) -> Option<&N>
     }
 }
 
-/// The same of an initialiser: one without braces has its expression's.
+/// The note of an initialiser (C17 6.7.9): one without braces has its expression's.
 pub fn value_note<N>(v: &Value<N>) -> &N
     ensures { result.now ≡ spec.value_note (view_value v.now) }
 {
@@ -91,14 +91,14 @@ pub fn value_note<N>(v: &Value<N>) -> &N
     }
 }
 
-/// The same of a declaration.
+/// The note of a declaration (C17 6.7).
 pub fn declaration_note<N>(d: &Declaration<N>) -> &N
     ensures { result.now ≡ spec.declaration_note (view_declaration d.now) }
 {
     &d.note
 }
 
-/// The same of a statement: a compound one has its block's.
+/// The note of a statement (C17 6.8): a compound one has its block's.
 pub fn stmt_note<N>(s: &Stmt<N>) -> &N
     ensures { result.now ≡ spec.stmt_note (view_stmt s.now) }
 {
@@ -118,14 +118,14 @@ pub fn stmt_note<N>(s: &Stmt<N>) -> &N
     }
 }
 
-/// The same of a block.
+/// The note of a block (C17 6.8.2).
 pub fn block_note<N>(b: &Block<N>) -> &N
     ensures { result.now ≡ spec.block_note (view_block b.now) }
 {
     &b.note
 }
 
-/// The same of what stands in a block: that of the declaration, the statement or the label.
+/// The note of what stands in a block: that of the declaration, the statement or the label.
 pub fn item_note<N>(i: &Item<N>) -> &N
     ensures { result.now ≡ spec.item_note (view_item i.now) }
 {
@@ -136,7 +136,7 @@ pub fn item_note<N>(i: &Item<N>) -> &N
     }
 }
 
-/// The same of what stands in a file. The file itself has none.
+/// The note of a declaration or a function in a file (C17 6.9). The file itself has none.
 pub fn external_note<N>(x: &External<N>) -> &N
     ensures { result.now ≡ spec.external_note (view_external x.now) }
 {

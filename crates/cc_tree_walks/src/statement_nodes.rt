@@ -53,7 +53,7 @@ fn inits_nodes<N>(is: &[Init<N>]) -> u64
     nodes
 }
 
-/// The same of a declaration, itself included.
+/// How many nodes the declaration has, itself included; where there are 2^64 or more, 2^64 - 1.
 pub fn declaration_nodes<N>(d: &Declaration<N>) -> u64
     ensures { result ≡ min (spec.declaration_nodes (view_declaration d.now)) (2 ^ 64 - 1) }
 {
@@ -81,7 +81,7 @@ fn clause_nodes<N>(e: &Option<Expr<N>>) -> u64
     }
 }
 
-/// The same of a statement, itself included.
+/// How many nodes the statement has, itself included; where there are 2^64 or more, 2^64 - 1.
 #[cycle(statements)]
 pub fn stmt_nodes<N>(s: &Stmt<N>) -> u64
     ensures { result ≡ min (spec.stmt_nodes (view_stmt s.now)) (2 ^ 64 - 1) }
@@ -120,7 +120,7 @@ pub fn stmt_nodes<N>(s: &Stmt<N>) -> u64
     }
 }
 
-/// The same of a block, itself included.
+/// How many nodes the block has, itself included; where there are 2^64 or more, 2^64 - 1.
 #[cycle(statements)]
 pub fn block_nodes<N>(b: &Block<N>) -> u64
     ensures { result ≡ min (spec.block_nodes (view_block b.now)) (2 ^ 64 - 1) }
@@ -128,7 +128,7 @@ pub fn block_nodes<N>(b: &Block<N>) -> u64
     items_nodes(b.items.as_slice()).saturating_add(1)
 }
 
-/// The same of what stands in a block.
+/// How many nodes the declaration, statement or label in a block has; where there are 2^64 or more, 2^64 - 1.
 #[cycle(statements)]
 pub fn item_nodes<N>(i: &Item<N>) -> u64
     ensures { result ≡ min (spec.item_nodes (view_item i.now)) (2 ^ 64 - 1) }
@@ -152,7 +152,7 @@ fn items_nodes<N>(is: &[Item<N>]) -> u64
     nodes
 }
 
-/// The same of what stands in a file.
+/// How many nodes the declaration or function in a file has, itself included; where there are 2^64 or more, 2^64 - 1.
 pub fn external_nodes<N>(x: &External<N>) -> u64
     ensures { result ≡ min (spec.external_nodes (view_external x.now)) (2 ^ 64 - 1) }
 {
@@ -167,7 +167,7 @@ pub fn external_nodes<N>(x: &External<N>) -> u64
     }
 }
 
-/// The same of a whole file.
+/// How many nodes the file has, which is none itself; where there are 2^64 or more, 2^64 - 1.
 pub fn file_nodes<N>(f: &FileTree<N>) -> u64
     ensures { result ≡ min (spec.file_nodes (view_file f.now)) (2 ^ 64 - 1) }
 {

@@ -2,7 +2,7 @@ use Rattle.std.proofs.Common.{rules, ◌≡◌, ◌≤◌, ◌↔◌, ◌∷◌,
 use Rattle.cc_tree.specs.Views.{view, view_type, view_spec, view_member, view_constant, view_declarator, exprs_of, types_of, specs_of, members_of, constants_of, declarators_of}
 use Rattle.cc_tree.specs.Depth as spec
 use Rattle.cc_tree.specs.declared.expr.Expr.{the_lemmas}
-use Rattle.cc_tree_limits.proofs.Rest.{rest_at}
+use Rattle.cc_tree.proofs.Loops.{rest_at, item_falls}
 use Rattle.cc_tree_limits.proofs.fits.+fits.Goals as goal
 
 pub exprs_fit-returns-then-not-expr_fits : goal.exprs_fit-returns-then-not-expr_fits
@@ -96,3 +96,21 @@ expr_fits-returns-then-expr_fits-6 g t c =
     let first : spec.expr_depth (view c.get-in-Call.result.now) ≤ c.in-Some.inside = c.expr_fits-in-Call.ensures.0 c.if-expr_fits-6.true in
     let less = c.in-Some.ensures in
     (λ h. omega (arith, k, first, c.exprs_fit.ensures.0 h, less.0, less.1), λ h. c.exprs_fit.ensures.1 (omega (arith, k, h, less.0, less.1)))
+
+pub exprs_fit-expr_fits-requires : goal.exprs_fit-expr_fits-requires
+exprs_fit-expr_fits-requires g t c κs within = (item_falls _ 2 0 1 c.args.es.now c.loop-e.e-index c.e-item.result t c.loop-e-test.true c.e-item.is c.decreases (omega arith), search rules)
+
+pub types_fit-type_fits-requires : goal.types_fit-type_fits-requires
+types_fit-type_fits-requires g t c κs within = (item_falls _ 2 0 1 c.args.ts.now c.loop-t.t-index c.t-item.result t c.loop-t-test.true c.t-item.is c.decreases (omega arith), search rules)
+
+pub specs_fit-spec_fits-requires : goal.specs_fit-spec_fits-requires
+specs_fit-spec_fits-requires g t c κs within = (item_falls _ 2 0 1 c.args.ss.now c.loop-s.s-index c.s-item.result t c.loop-s-test.true c.s-item.is c.decreases (omega arith), search rules)
+
+pub members_fit-member_fits-requires : goal.members_fit-member_fits-requires
+members_fit-member_fits-requires g t c κs within = (item_falls _ 2 0 1 c.args.ms.now c.loop-m.m-index c.m-item.result t c.loop-m-test.true c.m-item.is c.decreases (omega arith), search rules)
+
+pub constants_fit-constant_fits-requires : goal.constants_fit-constant_fits-requires
+constants_fit-constant_fits-requires g t c κs within = (item_falls _ 2 0 1 c.args.cs.now c.loop-c.c-index c.c-item.result t c.loop-c-test.true c.c-item.is c.decreases (omega arith), search rules)
+
+pub declarators_fit-declarator_fits-requires : goal.declarators_fit-declarator_fits-requires
+declarators_fit-declarator_fits-requires g t c κs within = (item_falls _ 2 0 1 c.args.ds.now c.loop-d.d-index c.d-item.result t c.loop-d-test.true c.d-item.is c.decreases (omega arith), search rules)

@@ -1,6 +1,7 @@
-use Rattle.std.proofs.Common.{refl}
+use Rattle.std.proofs.Common.{rules, arith, refl}
 use Rattle.cc_tree.specs.Views.{view, view_type, view_spec, view_member, view_constant, view_declarator, exprs_of, types_of, specs_of, members_of, constants_of, declarators_of}
 use Rattle.cc_tree.specs.Nodes as spec
+use Rattle.cc_tree.proofs.Loops.{item_falls}
 use Rattle.cc_tree_walks.proofs.Loops.{sum_next, sum_all, fits}
 use Rattle.cc_tree_walks.proofs.nodes.+nodes.Goals as goal
 
@@ -27,3 +28,21 @@ constants_nodes-returns g t c = sum_all (λ cs. spec.constants_nodes (constants_
 
 pub declarators_nodes-returns : goal.declarators_nodes-returns
 declarators_nodes-returns g t c = sum_all (λ ds. spec.declarators_nodes (declarators_of ds)) (λ d. spec.declarator_nodes (view_declarator d)) (λ d ds. refl) c.args.ds.now c.loop-d.d-index c.loop-d.nodes c.loop-d.invariant.told refl c.loop-d-test.false c.loop-d.invariant.fits
+
+pub exprs_nodes-expr_nodes-requires : goal.exprs_nodes-expr_nodes-requires
+exprs_nodes-expr_nodes-requires g t c κs within = (item_falls _ 2 0 1 c.args.es.now c.loop-e.e-index c.e-item.result t c.loop-e-test.true c.e-item.is c.decreases (omega arith), search rules)
+
+pub types_nodes-type_nodes-requires : goal.types_nodes-type_nodes-requires
+types_nodes-type_nodes-requires g t c κs within = (item_falls _ 2 0 1 c.args.ts.now c.loop-t.t-index c.t-item.result t c.loop-t-test.true c.t-item.is c.decreases (omega arith), search rules)
+
+pub specs_nodes-spec_nodes-requires : goal.specs_nodes-spec_nodes-requires
+specs_nodes-spec_nodes-requires g t c κs within = (item_falls _ 2 0 1 c.args.ss.now c.loop-s.s-index c.s-item.result t c.loop-s-test.true c.s-item.is c.decreases (omega arith), search rules)
+
+pub members_nodes-member_nodes-requires : goal.members_nodes-member_nodes-requires
+members_nodes-member_nodes-requires g t c κs within = (item_falls _ 2 0 1 c.args.ms.now c.loop-m.m-index c.m-item.result t c.loop-m-test.true c.m-item.is c.decreases (omega arith), search rules)
+
+pub constants_nodes-constant_nodes-requires : goal.constants_nodes-constant_nodes-requires
+constants_nodes-constant_nodes-requires g t c κs within = (item_falls _ 2 0 1 c.args.cs.now c.loop-c.c-index c.c-item.result t c.loop-c-test.true c.c-item.is c.decreases (omega arith), search rules)
+
+pub declarators_nodes-declarator_nodes-requires : goal.declarators_nodes-declarator_nodes-requires
+declarators_nodes-declarator_nodes-requires g t c κs within = (item_falls _ 2 0 1 c.args.ds.now c.loop-d.d-index c.d-item.result t c.loop-d-test.true c.d-item.is c.decreases (omega arith), search rules)

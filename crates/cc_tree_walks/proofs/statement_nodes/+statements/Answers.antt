@@ -1,7 +1,8 @@
 use Rattle.std.proofs.Common.{rules, arith, refl}
 use Rattle.cc_tree.specs.Views.{view_item, items_of}
 use Rattle.cc_tree.specs.Nodes as spec
-use Rattle.cc_tree_walks.proofs.Loops.{sum_next, sum_all, fits, item_falls, list_falls}
+use Rattle.cc_tree.proofs.Loops.{item_falls}
+use Rattle.cc_tree_walks.proofs.Loops.{sum_next, sum_all, fits, list_falls}
 use Rattle.cc_tree.specs.declared.stmt.Block.{size-Block, size_is-Block}
 use Rattle.cc_tree_walks.proofs.Seen.{block_is}
 use Rattle.cc_tree_walks.proofs.statement_nodes.+statements.Goals as goal
