@@ -60,38 +60,38 @@ module _ (names : Names) (inner : Inner) (d : ℕ) where
 
   -- `total` is what is read in all, and `left` what was read so far
   pub record Climbing (least : ℕ) (total : Outcome (ExprTree Spot)) (left : ExprTree Spot) (ts : List Token) : Type 0 where
-    pub turns : ℕ
-    pub enough : d ≤ turns + expr_depth left
-    pub same : total ≡ climb names inner d least turns left ts
+    pub rounds : ℕ
+    pub enough : d ≤ rounds + expr_depth left
+    pub same : total ≡ climb names inner d least rounds left ts
 
   module _ (least : ℕ) (total : Outcome (ExprTree Spot)) (left : ExprTree Spot) (ts : List Token) where
-    goes_at : (turns : ℕ) → d ≤ turns + expr_depth left → total ≡ climb names inner d least turns left ts → true ≡ goes_on names inner d least left (tail ts)
+    goes_at : (rounds : ℕ) → d ≤ rounds + expr_depth left → total ≡ climb names inner d least rounds left ts → true ≡ goes_on names inner d least left (tail ts)
         → (x : ExprTree Spot) (r : List Token) → go_on names inner d left (tail ts) (spot ts) (skip ts) ≡ Ok (x, r) → Climbing least total x r
     goes_at zero enough same on x r e = absurd (omega (arith, enough, goes_on_room least left (tail ts) on))
-    goes_at (suc turns) enough same on x r e =
-        record { turns = turns; enough = omega (arith, enough, go_on_deep left (tail ts) (spot ts) (skip ts) x r e); same = same ∙ rw (sym on, e) refl }
+    goes_at (suc rounds) enough same on x r e =
+        record { rounds = rounds; enough = omega (arith, enough, go_on_deep left (tail ts) (spot ts) (skip ts) x r e); same = same ∙ rw (sym on, e) refl }
 
     pub climb_goes : Climbing least total left ts → true ≡ goes_on names inner d least left (tail ts)
         → (x : ExprTree Spot) (r : List Token) → go_on names inner d left (tail ts) (spot ts) (skip ts) ≡ Ok (x, r) → Climbing least total x r
-    climb_goes c = goes_at c.turns c.enough c.same
+    climb_goes c = goes_at c.rounds c.enough c.same
 
-    fails_at : (turns : ℕ) → d ≤ turns + expr_depth left → total ≡ climb names inner d least turns left ts → true ≡ goes_on names inner d least left (tail ts)
+    fails_at : (rounds : ℕ) → d ≤ rounds + expr_depth left → total ≡ climb names inner d least rounds left ts → true ≡ goes_on names inner d least left (tail ts)
         → (r : List Token) → go_on names inner d left (tail ts) (spot ts) (skip ts) ≡ Err r → total ≡ Err r
     fails_at zero enough same on r e = absurd (omega (arith, enough, goes_on_room least left (tail ts) on))
-    fails_at (suc turns) enough same on r e = same ∙ rw (sym on, e) refl
+    fails_at (suc rounds) enough same on r e = same ∙ rw (sym on, e) refl
 
     pub climb_fails : Climbing least total left ts → true ≡ goes_on names inner d least left (tail ts)
         → (r : List Token) → go_on names inner d left (tail ts) (spot ts) (skip ts) ≡ Err r → total ≡ Err r
-    climb_fails c = fails_at c.turns c.enough c.same
+    climb_fails c = fails_at c.rounds c.enough c.same
 
-    ends_at : (turns : ℕ) → total ≡ climb names inner d least turns left ts → false ≡ goes_on names inner d least left (tail ts) → total ≡ Ok (left, ts)
+    ends_at : (rounds : ℕ) → total ≡ climb names inner d least rounds left ts → false ≡ goes_on names inner d least left (tail ts) → total ≡ Ok (left, ts)
     ends_at zero same off = same
-    ends_at (suc turns) same off = same ∙ rw (sym off) refl
+    ends_at (suc rounds) same off = same ∙ rw (sym off) refl
 
     pub climb_ends : Climbing least total left ts → false ≡ goes_on names inner d least left (tail ts) → total ≡ Ok (left, ts)
-    climb_ends c = ends_at c.turns c.same
+    climb_ends c = ends_at c.rounds c.same
 
-    -- what is read next is deeper, and so the turns are bounded
+    -- what is read next is deeper, and so the rounds are bounded
     pub climb_deeper : true ≡ goes_on names inner d least left (tail ts)
         → (x : ExprTree Spot) (r : List Token) → go_on names inner d left (tail ts) (spot ts) (skip ts) ≡ Ok (x, r) → d - expr_depth x < d - expr_depth left
     climb_deeper on x r e = omega (arith, goes_on_room least left (tail ts) on, go_on_deep left (tail ts) (spot ts) (skip ts) x r e)

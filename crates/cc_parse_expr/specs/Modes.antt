@@ -2,6 +2,7 @@
 use Rattle.std.specs.Prelude.{ℕ, zero, suc}
 use Rattle.cc_grammar.specs.Names.{Names}
 use Rattle.cc_grammar.specs.Reading as spec
+use Rattle.cc_parse_expr.specs.declared.grammar.Grammar.{Grammar}
 use Rattle.cc_parse_expr.specs.declared.mode.Mode.{Mode}
 use Rattle.cc_parse_expr.specs.declared.mode.Mode.TheVariants as the_mode
 
@@ -14,3 +15,12 @@ mode_of the_mode.Either = spec.with_or_without
 abbrev pub inner_at : Names → ℕ → spec.Inner
 inner_at names zero = spec.no_inner
 inner_at names (suc d) = spec.readers names d
+
+module _ {E S D : Type 0} where
+  -- the readers of what stands inside
+  abbrev pub inner_of : Grammar E S D → spec.Inner
+  inner_of rules = inner_at rules.names.now rules.depth
+
+  -- a rule of the grammar with these names, over those readers, at this depth
+  abbrev pub by : {A : Type 0} → Grammar E S D → (Names → spec.Inner → ℕ → A) → A
+  by rules rule = rule rules.names.now (inner_of rules) rules.depth

@@ -6,20 +6,19 @@ ghost use Rattle.cc_grammar.specs.Reading as spec;
 ghost use Rattle.cc_tree.specs.Depth.{declarator_depth};
 ghost use Rattle.cc_tree.specs.Views.{view_declarator, option_of};
 ghost use Rattle.cc_parse_tokens.specs.Gives.{Gives};
-ghost use Rattle.cc_parse_expr.specs.Modes.{mode_of, inner_at};
+ghost use Rattle.cc_parse_expr.specs.Modes.{mode_of, by};
 ghost use Rattle.cc_parse_expr.specs.Parts as part;
-ghost use Rattle.cc_parse_expr.specs.Nests.{NestsExpr, NestsSpecs, NestsDeclarator};
+ghost use Rattle.cc_parse_expr.specs.Nests.{Nests};
 
 use crate::grammar::Grammar;
 use crate::identifier::identifier;
 use crate::mode::Mode;
+use cc_base::Spot;
 use cc_lex::{Keyword, Punct};
-use cc_parse_tokens::{Cursor, Fault, TypedefNames};
+use cc_parse_tokens::{Cursor, Fault, TypedefNames, levels};
 use cc_tree::{Declarator, Expr, Spec};
 use cc_tree_limits::declarator_fits;
-use cc_tree_make::{array, function, grouped, pointer};
-use cc_base::Spot;
-use sqlite_items::Items;
+use sqlite_items::{Boxed, Items};
 use std::alloc::Global;
 
 /// Whether a declarator has a name.
@@ -70,28 +69,34 @@ pub fn opening(d: &Declarator<Spot>, first: Spot) -> Spot
 
 impl<
     'n,
-    E: Fn(Global, &mut Cursor<'_>, &TypedefNames, u32, u8) -> Result<Expr<Spot>, Fault>,
+    E: Fn(Global, &mut Cursor<'_>, &TypedefNames, u32, u8) -> Result<Boxed<Expr<Spot>>, Fault>,
     S: Fn(Global, &mut Cursor<'_>, &TypedefNames, u32) -> Result<Items<Spec<Spot>>, Fault>,
-    D: Fn(Global, &mut Cursor<'_>, &TypedefNames, u32, Mode) -> Result<Declarator<Spot>, Fault>,
+    D: Fn(
+        Global,
+        &mut Cursor<'_>,
+        &TypedefNames,
+        u32,
+        Mode,
+    ) -> Result<Boxed<Declarator<Spot>>, Fault>,
 > Grammar<'n, E, S, D> {
     /// The length of an array behind its `[`, with the `]` (C17 6.7.6.2).
-    fn array_length(&self, tokens: &mut Cursor<'_>) -> Result<Option<Expr<Spot>>, Fault>
+    fn array_length(&self, tokens: &mut Cursor<'_>) -> Result<Option<Boxed<Expr<Spot>>>, Fault>
         requires room { 0 < self.now.depth }
-        requires nests_expr { NestsExpr self.now.depth (E.pre self.now.expr) (E.post self.now.expr) }
-        ensures { Gives option_of (spec.array_length self.now.names.now (inner_at self.now.names.now self.now.depth) self.now.depth tokens.old) result tokens.new }
+        requires nests { Nests self.now E.pre E.post S.pre S.post D.pre D.post }
+        ensures { Gives option_of (by self.now spec.array_length tokens.old) result tokens.new }
     {
         if tokens.next_is(Punct::RightBracket) {
             tokens.skip();
             return Ok(None);
         }
-        let length = self.inner_expr(tokens, 3)?;
+        let length = self.inner_expr(tokens, levels::CONDITIONAL)?;
         tokens.take(Punct::RightBracket)?;
         Ok(Some(length))
     }
 
     /// Whether a suffix comes: `[` or `(`.
     fn suffix_comes(&self, tokens: &Cursor<'_>) -> bool
-        ensures { result ≡ spec.suffix_comes self.now.names.now (inner_at self.now.names.now self.now.depth) self.now.depth tokens.now }
+        ensures { result ≡ by self.now spec.suffix_comes tokens.now }
     {
         tokens.next_is(Punct::LeftBracket) || tokens.next_is(Punct::LeftParen)
     }
@@ -99,7 +104,7 @@ impl<
     /// Whether a suffix comes that `left` can have. One that is refused for its depth alone is marked.
     fn has_suffix(&self, tokens: &mut Cursor<'_>, left: &Declarator<Spot>) -> bool
         requires room { 0 < self.now.depth }
-        ensures answer { result ≡ (spec.suffix_comes self.now.names.now (inner_at self.now.names.now self.now.depth) self.now.depth tokens.old && nat_lt (declarator_depth (view_declarator left.now)) self.now.depth) }
+        ensures answer { result ≡ (by self.now spec.suffix_comes tokens.old && nat_lt (declarator_depth (view_declarator left.now)) self.now.depth) }
         ensures stays { tokens.new ≡ tokens.old }
     {
         if !self.suffix_comes(tokens) {
@@ -116,48 +121,45 @@ impl<
     fn array_of(
         &self,
         tokens: &mut Cursor<'_>,
-        left: Declarator<Spot>,
+        left: Boxed<Declarator<Spot>>,
         note: Spot,
-    ) -> Result<Declarator<Spot>, Fault>
+    ) -> Result<Boxed<Declarator<Spot>>, Fault>
         requires room { 0 < self.now.depth }
-        requires nests_expr { NestsExpr self.now.depth (E.pre self.now.expr) (E.post self.now.expr) }
-        ensures { Gives view_declarator (part.array_of self.now.names.now (inner_at self.now.names.now self.now.depth) self.now.depth (view_declarator left) note tokens.old) result tokens.new }
+        requires nests { Nests self.now E.pre E.post S.pre S.post D.pre D.post }
+        ensures { Gives view_declarator (by self.now part.array_of (view_declarator left) note tokens.old) result tokens.new }
     {
         tokens.skip();
         let length = self.array_length(tokens)?;
-        Ok(array(self.alloc, note, left, length)?)
+        Ok(Boxed::new(self.alloc, Declarator::Array(note, left, length))?)
     }
 
     /// `left` with parameters behind it (C17 6.7.6.3).
     fn function_of(
         &self,
         tokens: &mut Cursor<'_>,
-        left: Declarator<Spot>,
+        left: Boxed<Declarator<Spot>>,
         note: Spot,
-    ) -> Result<Declarator<Spot>, Fault>
+    ) -> Result<Boxed<Declarator<Spot>>, Fault>
         requires room { 0 < self.now.depth }
-        requires nests_specs { NestsSpecs self.now.depth (S.pre self.now.specs) (S.post self.now.specs) }
-        requires nests_declarator { NestsDeclarator self.now.depth (D.pre self.now.declarator) (D.post self.now.declarator) }
-        ensures { Gives view_declarator (part.function_of self.now.names.now (inner_at self.now.names.now self.now.depth) self.now.depth (view_declarator left) note tokens.old) result tokens.new }
+        requires nests { Nests self.now E.pre E.post S.pre S.post D.pre D.post }
+        ensures { Gives view_declarator (by self.now part.function_of (view_declarator left) note tokens.old) result tokens.new }
     {
         tokens.skip();
         let parameters = self.parameters(tokens)?;
-        Ok(function(self.alloc, note, left, parameters)?)
+        Ok(Boxed::new(self.alloc, Declarator::Func(note, left, parameters))?)
     }
 
     /// What goes on behind a declarator: an array's brackets, or parameters.
     fn suffix(
         &self,
         tokens: &mut Cursor<'_>,
-        left: Declarator<Spot>,
-    ) -> Result<Declarator<Spot>, Fault>
+        left: Boxed<Declarator<Spot>>,
+    ) -> Result<Boxed<Declarator<Spot>>, Fault>
         requires room { 0 < self.now.depth }
-        requires nests_expr { NestsExpr self.now.depth (E.pre self.now.expr) (E.post self.now.expr) }
-        requires nests_specs { NestsSpecs self.now.depth (S.pre self.now.specs) (S.post self.now.specs) }
-        requires nests_declarator { NestsDeclarator self.now.depth (D.pre self.now.declarator) (D.post self.now.declarator) }
-        ensures { Gives view_declarator (spec.suffix self.now.names.now (inner_at self.now.names.now self.now.depth) self.now.depth (view_declarator left) tokens.old) result tokens.new }
+        requires nests { Nests self.now E.pre E.post S.pre S.post D.pre D.post }
+        ensures { Gives view_declarator (by self.now spec.suffix (view_declarator left) tokens.old) result tokens.new }
     {
-        let note = spot_or(&left, tokens.spot());
+        let note = spot_or(left.get(), tokens.spot());
         if tokens.next_is(Punct::LeftBracket) {
             self.array_of(tokens, left, note)
         } else {
@@ -166,35 +168,35 @@ impl<
     }
 
     /// What is written inside of parentheses.
-    fn written(&self, tokens: &mut Cursor<'_>, mode: Mode) -> Result<Declarator<Spot>, Fault>
+    fn written(&self, tokens: &mut Cursor<'_>, mode: Mode) -> Result<Boxed<Declarator<Spot>>, Fault>
         requires room { 0 < self.now.depth }
-        requires nests_declarator { NestsDeclarator self.now.depth (D.pre self.now.declarator) (D.post self.now.declarator) }
-        ensures { Gives view_declarator (part.written self.now.names.now (inner_at self.now.names.now self.now.depth) self.now.depth (mode_of mode) tokens.old) result tokens.new }
+        requires nests { Nests self.now E.pre E.post S.pre S.post D.pre D.post }
+        ensures { Gives view_declarator (by self.now part.written (mode_of mode) tokens.old) result tokens.new }
     {
         let inside = self.inner_declarator(tokens, mode)?;
-        if !is_written(&inside) {
+        if !is_written(inside.get()) {
             return Err(Fault::Refused);
         }
         Ok(inside)
     }
 
     /// A declarator in parentheses (C17 6.7.6p6).
-    fn group(&self, tokens: &mut Cursor<'_>, mode: Mode) -> Result<Declarator<Spot>, Fault>
+    fn group(&self, tokens: &mut Cursor<'_>, mode: Mode) -> Result<Boxed<Declarator<Spot>>, Fault>
         requires room { 0 < self.now.depth }
-        requires nests_declarator { NestsDeclarator self.now.depth (D.pre self.now.declarator) (D.post self.now.declarator) }
-        ensures { Gives view_declarator (spec.group self.now.names.now (inner_at self.now.names.now self.now.depth) self.now.depth (mode_of mode) tokens.old) result tokens.new }
+        requires nests { Nests self.now E.pre E.post S.pre S.post D.pre D.post }
+        ensures { Gives view_declarator (by self.now spec.group (mode_of mode) tokens.old) result tokens.new }
     {
         let first = tokens.spot();
         tokens.skip();
         let inside = self.written(tokens, mode)?;
         tokens.take(Punct::RightParen)?;
-        let note = opening(&inside, first);
-        Ok(grouped(self.alloc, note, inside)?)
+        let note = opening(inside.get(), first);
+        Ok(Boxed::new(self.alloc, Declarator::Paren(note, inside))?)
     }
 
     /// Whether the parenthesis that comes begins parameters, where there may be no name (C17 6.7.6.3p11).
     fn begins_parameters(&self, tokens: &Cursor<'_>, mode: Mode) -> bool
-        ensures { result ≡ spec.begins_parameters self.now.names.now (inner_at self.now.names.now self.now.depth) self.now.depth (mode_of mode) tokens.now }
+        ensures { result ≡ by self.now spec.begins_parameters (mode_of mode) tokens.now }
     {
         match mode {
             Mode::Named => false,
@@ -206,18 +208,18 @@ impl<
     }
 
     /// Nothing in the place of a declarator, where there may be nothing.
-    fn nothing(&self, tokens: &mut Cursor<'_>, mode: Mode) -> Result<Declarator<Spot>, Fault>
-        ensures { Gives view_declarator (spec.nothing self.now.names.now (inner_at self.now.names.now self.now.depth) self.now.depth (mode_of mode) tokens.old) result tokens.new }
+    fn nothing(&self, tokens: &mut Cursor<'_>, mode: Mode) -> Result<Boxed<Declarator<Spot>>, Fault>
+        ensures { Gives view_declarator (by self.now spec.nothing (mode_of mode) tokens.old) result tokens.new }
     {
         match mode {
             Mode::Named => Err(Fault::Refused),
-            Mode::Abstract | Mode::Either => Ok(Declarator::Nameless),
+            Mode::Abstract | Mode::Either => { Ok(Boxed::new(self.alloc, Declarator::Nameless)?) }
         }
     }
 
     /// Whether a name comes that the declarator may have.
     fn has_name(&self, tokens: &Cursor<'_>, mode: Mode) -> bool
-        ensures { result ≡ (spec.takes_name (mode_of mode) && spec.is_id self.now.names.now (inner_at self.now.names.now self.now.depth) self.now.depth (next_ident tokens.now)) }
+        ensures { result ≡ (spec.takes_name (mode_of mode) && by self.now spec.is_id (next_ident tokens.now)) }
     {
         match mode {
             Mode::Abstract => false,
@@ -229,15 +231,15 @@ impl<
     }
 
     /// A declarator without `*` and without suffixes: a name, parentheses, or nothing (C17 6.7.6, 6.7.7).
-    fn direct(&self, tokens: &mut Cursor<'_>, mode: Mode) -> Result<Declarator<Spot>, Fault>
+    fn direct(&self, tokens: &mut Cursor<'_>, mode: Mode) -> Result<Boxed<Declarator<Spot>>, Fault>
         requires room { 0 < self.now.depth }
-        requires nests_declarator { NestsDeclarator self.now.depth (D.pre self.now.declarator) (D.post self.now.declarator) }
-        ensures { Gives view_declarator (spec.direct self.now.names.now (inner_at self.now.names.now self.now.depth) self.now.depth (mode_of mode) tokens.old) result tokens.new }
+        requires nests { Nests self.now E.pre E.post S.pre S.post D.pre D.post }
+        ensures { Gives view_declarator (by self.now spec.direct (mode_of mode) tokens.old) result tokens.new }
     {
         if self.has_name(tokens, mode) {
             let note = tokens.spot();
             let name = identifier(self.alloc, tokens, self.names)?;
-            return Ok(Declarator::Name(note, name));
+            return Ok(Boxed::new(self.alloc, Declarator::Name(note, name))?);
         }
         if tokens.next_is(Punct::LeftParen) && !self.begins_parameters(tokens, mode) {
             return self.group(tokens, mode);
@@ -247,10 +249,10 @@ impl<
 
     /// Goes past each `const` that comes, and counts them (C17 6.7.6.1).
     fn consts(&self, tokens: &mut Cursor<'_>) -> u64
-        ensures { spec.consts self.now.names.now (inner_at self.now.names.now self.now.depth) self.now.depth tokens.old ≡ Ok (result, tokens.new) }
+        ensures { by self.now spec.consts tokens.old ≡ Ok (result, tokens.new) }
     {
         let mut count = 0;
-        for _turn in 0..tokens.len() {
+        for _round in 0..tokens.len() {
             if !tokens.next_is_keyword(Keyword::Const) {
                 return count;
             }
@@ -261,34 +263,32 @@ impl<
     }
 
     /// `*` with each `const` behind it, and the declarator after them (C17 6.7.6.1).
-    fn pointed(&self, tokens: &mut Cursor<'_>, mode: Mode) -> Result<Declarator<Spot>, Fault>
+    fn pointed(&self, tokens: &mut Cursor<'_>, mode: Mode) -> Result<Boxed<Declarator<Spot>>, Fault>
         requires room { 0 < self.now.depth }
-        requires nests_declarator { NestsDeclarator self.now.depth (D.pre self.now.declarator) (D.post self.now.declarator) }
-        ensures { Gives view_declarator (part.pointed self.now.names.now (inner_at self.now.names.now self.now.depth) self.now.depth (mode_of mode) tokens.old) result tokens.new }
+        requires nests { Nests self.now E.pre E.post S.pre S.post D.pre D.post }
+        ensures { Gives view_declarator (by self.now part.pointed (mode_of mode) tokens.old) result tokens.new }
     {
         let first = tokens.spot();
         tokens.skip();
         let count = self.consts(tokens);
         let inside = self.inner_declarator(tokens, mode)?;
-        let note = opening(&inside, first);
-        Ok(pointer(self.alloc, note, count, inside)?)
+        let note = opening(inside.get(), first);
+        Ok(Boxed::new(self.alloc, Declarator::Pointer(note, count, inside))?)
     }
 
     /// Goes on behind `first` as long as a suffix comes and there is room for it.
     fn suffixes(
         &self,
         tokens: &mut Cursor<'_>,
-        first: Declarator<Spot>,
-    ) -> Result<Declarator<Spot>, Fault>
+        first: Boxed<Declarator<Spot>>,
+    ) -> Result<Boxed<Declarator<Spot>>, Fault>
         requires room { 0 < self.now.depth }
-        requires nests_expr { NestsExpr self.now.depth (E.pre self.now.expr) (E.post self.now.expr) }
-        requires nests_specs { NestsSpecs self.now.depth (S.pre self.now.specs) (S.post self.now.specs) }
-        requires nests_declarator { NestsDeclarator self.now.depth (D.pre self.now.declarator) (D.post self.now.declarator) }
-        ensures { Gives view_declarator (spec.suffixes self.now.names.now (inner_at self.now.names.now self.now.depth) self.now.depth self.now.depth (view_declarator first) tokens.old) result tokens.new }
+        requires nests { Nests self.now E.pre E.post S.pre S.post D.pre D.post }
+        ensures { Gives view_declarator (by self.now spec.suffixes self.now.depth (view_declarator first) tokens.old) result tokens.new }
     {
         let mut left = first;
-        for _turn in 0..self.depth {
-            if !self.has_suffix(tokens, &left) {
+        for _round in 0..self.depth {
+            if !self.has_suffix(tokens, left.get()) {
                 return Ok(left);
             }
             left = self.suffix(tokens, left)?;
@@ -305,12 +305,10 @@ impl<
         &self,
         tokens: &mut Cursor<'_>,
         mode: Mode,
-    ) -> Result<Declarator<Spot>, Fault>
+    ) -> Result<Boxed<Declarator<Spot>>, Fault>
         requires room { 0 < self.now.depth }
-        requires nests_expr { NestsExpr self.now.depth (E.pre self.now.expr) (E.post self.now.expr) }
-        requires nests_specs { NestsSpecs self.now.depth (S.pre self.now.specs) (S.post self.now.specs) }
-        requires nests_declarator { NestsDeclarator self.now.depth (D.pre self.now.declarator) (D.post self.now.declarator) }
-        ensures { Gives view_declarator (part.some_declarator self.now.names.now (inner_at self.now.names.now self.now.depth) self.now.depth (mode_of mode) tokens.old) result tokens.new }
+        requires nests { Nests self.now E.pre E.post S.pre S.post D.pre D.post }
+        ensures { Gives view_declarator (by self.now part.some_declarator (mode_of mode) tokens.old) result tokens.new }
     {
         if tokens.next_is(Punct::Star) {
             return self.pointed(tokens, mode);
@@ -331,11 +329,13 @@ impl<
     }
 
     /// A declarator: with a name, without one, or either (C17 6.7.6, 6.7.7).
-    pub fn declarator(&self, tokens: &mut Cursor<'_>, mode: Mode) -> Result<Declarator<Spot>, Fault>
-        requires nests_expr { 0 < self.now.depth → NestsExpr self.now.depth (E.pre self.now.expr) (E.post self.now.expr) }
-        requires nests_specs { 0 < self.now.depth → NestsSpecs self.now.depth (S.pre self.now.specs) (S.post self.now.specs) }
-        requires nests_declarator { 0 < self.now.depth → NestsDeclarator self.now.depth (D.pre self.now.declarator) (D.post self.now.declarator) }
-        ensures { Gives view_declarator (spec.declarator self.now.names.now (inner_at self.now.names.now self.now.depth) self.now.depth (mode_of mode) tokens.old) result tokens.new }
+    pub fn declarator(
+        &self,
+        tokens: &mut Cursor<'_>,
+        mode: Mode,
+    ) -> Result<Boxed<Declarator<Spot>>, Fault>
+        requires nests { Nests self.now E.pre E.post S.pre S.post D.pre D.post }
+        ensures { Gives view_declarator (by self.now spec.declarator (mode_of mode) tokens.old) result tokens.new }
     {
         if self.depth == 0 {
             self.mark_declarator(tokens, mode);

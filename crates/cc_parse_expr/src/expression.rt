@@ -4,29 +4,35 @@ ghost use Rattle.cc_grammar.specs.Classes as class;
 ghost use Rattle.cc_grammar.specs.Reading as spec;
 ghost use Rattle.cc_tree.specs.Views.{view};
 ghost use Rattle.cc_parse_tokens.specs.Gives.{Gives};
-ghost use Rattle.cc_parse_expr.specs.Modes.{inner_at};
-ghost use Rattle.cc_parse_expr.specs.Nests.{NestsExpr, NestsSpecs, NestsDeclarator};
+ghost use Rattle.cc_parse_expr.specs.Modes.{by};
+ghost use Rattle.cc_parse_expr.specs.Nests.{Nests};
 
 use crate::grammar::Grammar;
 use crate::mode::Mode;
 use crate::shape::level;
+use cc_base::Spot;
 use cc_parse_tokens::{Cursor, Fault, TypedefNames, binds, left_level};
 use cc_tree::{Declarator, Expr, Spec};
 use cc_tree_limits::expr_fits;
-use cc_base::Spot;
-use sqlite_items::Items;
+use sqlite_items::{Boxed, Items};
 use std::alloc::Global;
 
 impl<
     'n,
-    E: Fn(Global, &mut Cursor<'_>, &TypedefNames, u32, u8) -> Result<Expr<Spot>, Fault>,
+    E: Fn(Global, &mut Cursor<'_>, &TypedefNames, u32, u8) -> Result<Boxed<Expr<Spot>>, Fault>,
     S: Fn(Global, &mut Cursor<'_>, &TypedefNames, u32) -> Result<Items<Spec<Spot>>, Fault>,
-    D: Fn(Global, &mut Cursor<'_>, &TypedefNames, u32, Mode) -> Result<Declarator<Spot>, Fault>,
+    D: Fn(
+        Global,
+        &mut Cursor<'_>,
+        &TypedefNames,
+        u32,
+        Mode,
+    ) -> Result<Boxed<Declarator<Spot>>, Fault>,
 > Grammar<'n, E, S, D> {
     /// Whether `left` goes on with the next token. One that is refused for the depth alone is marked.
     fn goes_on(&self, tokens: &mut Cursor<'_>, least: u8, left: &Expr<Spot>) -> bool
         requires room { 0 < self.now.depth }
-        ensures answer { result ≡ spec.goes_on self.now.names.now (inner_at self.now.names.now self.now.depth) self.now.depth least (view left.now) (class.tail tokens.old) }
+        ensures answer { result ≡ by self.now spec.goes_on least (view left.now) (class.tail tokens.old) }
         ensures stays { tokens.new ≡ tokens.old }
     {
         let tail = tokens.tail();
@@ -45,14 +51,14 @@ impl<
         &self,
         tokens: &mut Cursor<'_>,
         least: u8,
-        first: Expr<Spot>,
-    ) -> Result<Expr<Spot>, Fault>
+        first: Boxed<Expr<Spot>>,
+    ) -> Result<Boxed<Expr<Spot>>, Fault>
         requires room { 0 < self.now.depth }
-        requires nests { NestsExpr self.now.depth (E.pre self.now.expr) (E.post self.now.expr) }
-        ensures { Gives view (spec.climb self.now.names.now (inner_at self.now.names.now self.now.depth) self.now.depth least self.now.depth (view first) tokens.old) result tokens.new }
+        requires nests { Nests self.now E.pre E.post S.pre S.post D.pre D.post }
+        ensures { Gives view (by self.now spec.climb least self.now.depth (view first) tokens.old) result tokens.new }
     {
         let mut left = first;
-        while self.goes_on(tokens, least, &left) {
+        while self.goes_on(tokens, least, left.get()) {
             let tail = tokens.tail();
             let note = tokens.spot();
             tokens.skip();
@@ -62,11 +68,9 @@ impl<
     }
 
     /// An expression of this level at least (C17 6.5).
-    pub fn expression(&self, tokens: &mut Cursor<'_>, least: u8) -> Result<Expr<Spot>, Fault>
-        requires nests_expr { 0 < self.now.depth → NestsExpr self.now.depth (E.pre self.now.expr) (E.post self.now.expr) }
-        requires nests_specs { 0 < self.now.depth → NestsSpecs self.now.depth (S.pre self.now.specs) (S.post self.now.specs) }
-        requires nests_declarator { 0 < self.now.depth → NestsDeclarator self.now.depth (D.pre self.now.declarator) (D.post self.now.declarator) }
-        ensures { Gives view (spec.expression self.now.names.now (inner_at self.now.names.now self.now.depth) self.now.depth least tokens.old) result tokens.new }
+    pub fn expression(&self, tokens: &mut Cursor<'_>, least: u8) -> Result<Boxed<Expr<Spot>>, Fault>
+        requires nests { Nests self.now E.pre E.post S.pre S.post D.pre D.post }
+        ensures { Gives view (by self.now spec.expression least tokens.old) result tokens.new }
     {
         if self.depth == 0 {
             if self.begins_expression(tokens) {

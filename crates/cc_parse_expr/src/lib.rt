@@ -5,12 +5,8 @@
 //! reader of the same name in `cc_grammar`'s definitions of reading gives.
 #![tactic(auto)]
 
-#[cfg(test)]
-mod declarator_tests;
 mod declarators;
 mod expression;
-#[cfg(test)]
-mod expression_tests;
 mod grammar;
 mod identifier;
 mod mode;

@@ -6,25 +6,30 @@ ghost use Rattle.cc_tree.specs.Views.{view, view_type};
 ghost use Rattle.cc_parse_tokens.specs.Classes.{integer_of, character_of};
 ghost use Rattle.cc_parse_tokens.specs.Gives.{Gives};
 ghost use Rattle.cc_parse_expr.specs.Branches as branch;
-ghost use Rattle.cc_parse_expr.specs.Modes.{inner_at};
-ghost use Rattle.cc_parse_expr.specs.Nests.{NestsExpr, NestsSpecs, NestsDeclarator};
+ghost use Rattle.cc_parse_expr.specs.Modes.{by, inner_of};
+ghost use Rattle.cc_parse_expr.specs.Nests.{Nests};
 
 use crate::grammar::Grammar;
 use crate::identifier::identifier;
 use crate::mode::Mode;
-use cc_lex::Punct;
-use cc_parse_tokens::{Cursor, Fault, Start, TypedefNames};
-use cc_tree::{Declarator, Expr, Side, Spec, StepOp, TypeName, UnaryOp};
-use cc_tree_make::{cast, paren, size_expr, size_type, step, unary};
 use cc_base::{Bytes, List, Spot};
-use sqlite_items::Items;
+use cc_lex::Punct;
+use cc_parse_tokens::{Cursor, Fault, Start, TypedefNames, levels};
+use cc_tree::{Declarator, Expr, Side, Spec, StepOp, TypeName, UnaryOp};
+use sqlite_items::{Boxed, Items};
 use std::alloc::Global;
 
 impl<
     'n,
-    E: Fn(Global, &mut Cursor<'_>, &TypedefNames, u32, u8) -> Result<Expr<Spot>, Fault>,
+    E: Fn(Global, &mut Cursor<'_>, &TypedefNames, u32, u8) -> Result<Boxed<Expr<Spot>>, Fault>,
     S: Fn(Global, &mut Cursor<'_>, &TypedefNames, u32) -> Result<Items<Spec<Spot>>, Fault>,
-    D: Fn(Global, &mut Cursor<'_>, &TypedefNames, u32, Mode) -> Result<Declarator<Spot>, Fault>,
+    D: Fn(
+        Global,
+        &mut Cursor<'_>,
+        &TypedefNames,
+        u32,
+        Mode,
+    ) -> Result<Boxed<Declarator<Spot>>, Fault>,
 > Grammar<'n, E, S, D> {
     /// Whether the next token begins an expression. A typedef name doesn't.
     pub fn begins_expression(&self, tokens: &Cursor<'_>) -> bool {
@@ -33,7 +38,7 @@ impl<
 
     /// The string literal that comes next.
     fn literal(&self, tokens: &mut Cursor<'_>) -> Result<Bytes, Fault>
-        ensures { Gives (λ x. x) (spec.literal_by self.now.names.now (inner_at self.now.names.now self.now.depth) self.now.depth (class.next_literal tokens.old) tokens.old) result tokens.new }
+        ensures { Gives (λ x. x) (by self.now spec.literal_by (class.next_literal tokens.old) tokens.old) result tokens.new }
     {
         let Some(bytes) = tokens.literal() else {
             return Err(Fault::Refused);
@@ -45,17 +50,17 @@ impl<
 
     /// Whether a string literal comes next.
     fn has_literal(&self, tokens: &Cursor<'_>) -> bool
-        ensures { result ≡ spec.is_literal self.now.names.now (inner_at self.now.names.now self.now.depth) self.now.depth (class.next_literal tokens.now) }
+        ensures { result ≡ by self.now spec.is_literal (class.next_literal tokens.now) }
     {
         tokens.literal().is_some()
     }
 
     /// String literals, one at least, side by side (C17 6.4.5p5).
     fn literals(&self, tokens: &mut Cursor<'_>) -> Result<List<Bytes>, Fault>
-        ensures { Gives (λ x. x) (spec.literals self.now.names.now (inner_at self.now.names.now self.now.depth) self.now.depth tokens.old) result tokens.new }
+        ensures { Gives (λ x. x) (by self.now spec.literals tokens.old) result tokens.new }
     {
         let mut found = List::new(self.alloc);
-        for _turn in 0..tokens.len() {
+        for _round in 0..tokens.len() {
             found.push(self.literal(tokens)?)?;
             if !self.has_literal(tokens) {
                 return Ok(found);
@@ -65,28 +70,26 @@ impl<
     }
 
     /// A name as an expression (C17 6.5.1p2).
-    fn named(&self, tokens: &mut Cursor<'_>, note: Spot) -> Result<Expr<Spot>, Fault>
+    fn named(&self, tokens: &mut Cursor<'_>, note: Spot) -> Result<Boxed<Expr<Spot>>, Fault>
         ensures { Gives view (branch.naming self.now.names.now note tokens.old) result tokens.new }
     {
         let name = identifier(self.alloc, tokens, self.names)?;
-        Ok(Expr::Name(note, name))
+        Ok(Boxed::new(self.alloc, Expr::Name(note, name))?)
     }
 
     /// String literals as an expression (C17 6.5.1p4).
-    fn quoted(&self, tokens: &mut Cursor<'_>, note: Spot) -> Result<Expr<Spot>, Fault>
-        ensures { Gives view (branch.quoting self.now.names.now (inner_at self.now.names.now self.now.depth) self.now.depth note tokens.old) result tokens.new }
+    fn quoted(&self, tokens: &mut Cursor<'_>, note: Spot) -> Result<Boxed<Expr<Spot>>, Fault>
+        ensures { Gives view (by self.now branch.quoting note tokens.old) result tokens.new }
     {
         let strings = self.literals(tokens)?;
-        Ok(Expr::Str(note, strings))
+        Ok(Boxed::new(self.alloc, Expr::Str(note, strings))?)
     }
 
     /// A type behind a `(`, with the `)`, and what is cast to it (C17 6.5.4).
-    fn casted(&self, tokens: &mut Cursor<'_>, note: Spot) -> Result<Expr<Spot>, Fault>
+    fn casted(&self, tokens: &mut Cursor<'_>, note: Spot) -> Result<Boxed<Expr<Spot>>, Fault>
         requires room { 0 < self.now.depth }
-        requires nests_expr { NestsExpr self.now.depth (E.pre self.now.expr) (E.post self.now.expr) }
-        requires nests_specs { NestsSpecs self.now.depth (S.pre self.now.specs) (S.post self.now.specs) }
-        requires nests_declarator { NestsDeclarator self.now.depth (D.pre self.now.declarator) (D.post self.now.declarator) }
-        ensures { Gives view (branch.casting self.now.names.now (inner_at self.now.names.now self.now.depth) self.now.depth note tokens.old) result tokens.new }
+        requires nests { Nests self.now E.pre E.post S.pre S.post D.pre D.post }
+        ensures { Gives view (by self.now branch.casting note tokens.old) result tokens.new }
     {
         let to = self.typed(tokens, Mode::Abstract)?;
         self.cast_operand(tokens, to, note)
@@ -96,27 +99,27 @@ impl<
     fn cast_operand(
         &self,
         tokens: &mut Cursor<'_>,
-        to: TypeName<Spot>,
+        to: Boxed<TypeName<Spot>>,
         note: Spot,
-    ) -> Result<Expr<Spot>, Fault>
+    ) -> Result<Boxed<Expr<Spot>>, Fault>
         requires room { 0 < self.now.depth }
-        requires nests_expr { NestsExpr self.now.depth (E.pre self.now.expr) (E.post self.now.expr) }
-        ensures { Gives view (branch.cast_operand (inner_at self.now.names.now self.now.depth) (view_type to) note tokens.old) result tokens.new }
+        requires nests { Nests self.now E.pre E.post S.pre S.post D.pre D.post }
+        ensures { Gives view (branch.cast_operand (inner_of self.now) (view_type to) note tokens.old) result tokens.new }
     {
         tokens.take(Punct::RightParen)?;
-        let e = self.inner_expr(tokens, 14)?;
-        Ok(cast(self.alloc, note, to, e)?)
+        let e = self.inner_expr(tokens, levels::CAST)?;
+        Ok(Boxed::new(self.alloc, Expr::Cast(note, to, e))?)
     }
 
     /// An expression behind a `(`, with the `)` (C17 6.5.1p5).
-    fn enclosed(&self, tokens: &mut Cursor<'_>, note: Spot) -> Result<Expr<Spot>, Fault>
+    fn enclosed(&self, tokens: &mut Cursor<'_>, note: Spot) -> Result<Boxed<Expr<Spot>>, Fault>
         requires room { 0 < self.now.depth }
-        requires nests_expr { NestsExpr self.now.depth (E.pre self.now.expr) (E.post self.now.expr) }
-        ensures { Gives view (branch.enclosing (inner_at self.now.names.now self.now.depth) note tokens.old) result tokens.new }
+        requires nests { Nests self.now E.pre E.post S.pre S.post D.pre D.post }
+        ensures { Gives view (branch.enclosing (inner_of self.now) note tokens.old) result tokens.new }
     {
-        let e = self.inner_expr(tokens, 1)?;
+        let e = self.inner_expr(tokens, levels::COMMA)?;
         tokens.take(Punct::RightParen)?;
-        Ok(paren(self.alloc, note, e)?)
+        Ok(Boxed::new(self.alloc, Expr::Paren(note, e))?)
     }
 
     /// A form that a `(` begins: a cast where a specifier comes and the level leaves room for one (C17 6.5.1, 6.5.4).
@@ -125,15 +128,13 @@ impl<
         tokens: &mut Cursor<'_>,
         least: u8,
         note: Spot,
-    ) -> Result<Expr<Spot>, Fault>
+    ) -> Result<Boxed<Expr<Spot>>, Fault>
         requires room { 0 < self.now.depth }
-        requires nests_expr { NestsExpr self.now.depth (E.pre self.now.expr) (E.post self.now.expr) }
-        requires nests_specs { NestsSpecs self.now.depth (S.pre self.now.specs) (S.post self.now.specs) }
-        requires nests_declarator { NestsDeclarator self.now.depth (D.pre self.now.declarator) (D.post self.now.declarator) }
-        ensures { Gives view (spec.behind_paren self.now.names.now (inner_at self.now.names.now self.now.depth) self.now.depth least note (class.skip tokens.old)) result tokens.new }
+        requires nests { Nests self.now E.pre E.post S.pre S.post D.pre D.post }
+        ensures { Gives view (by self.now spec.behind_paren least note (class.skip tokens.old)) result tokens.new }
     {
         tokens.skip();
-        if tokens.starts_spec(self.names) && least <= 14 {
+        if tokens.starts_spec(self.names) && least <= levels::CAST {
             self.casted(tokens, note)
         } else {
             self.enclosed(tokens, note)
@@ -141,27 +142,24 @@ impl<
     }
 
     /// A type in parentheses behind `sizeof` (C17 6.5.3.4).
-    fn type_size(&self, tokens: &mut Cursor<'_>, note: Spot) -> Result<Expr<Spot>, Fault>
+    fn type_size(&self, tokens: &mut Cursor<'_>, note: Spot) -> Result<Boxed<Expr<Spot>>, Fault>
         requires room { 0 < self.now.depth }
-        requires nests_specs { NestsSpecs self.now.depth (S.pre self.now.specs) (S.post self.now.specs) }
-        requires nests_declarator { NestsDeclarator self.now.depth (D.pre self.now.declarator) (D.post self.now.declarator) }
-        ensures { Gives view (branch.sizing self.now.names.now (inner_at self.now.names.now self.now.depth) self.now.depth note tokens.old) result tokens.new }
+        requires nests { Nests self.now E.pre E.post S.pre S.post D.pre D.post }
+        ensures { Gives view (by self.now branch.sizing note tokens.old) result tokens.new }
     {
         tokens.skip();
         let of = self.typed(tokens, Mode::Abstract)?;
         tokens.take(Punct::RightParen)?;
-        Ok(size_type(self.alloc, note, of)?)
+        Ok(Boxed::new(self.alloc, Expr::SizeType(note, of))?)
     }
 
     /// `sizeof` and its operand (C17 6.5.3.4).
     ///
     /// Where an operand would be too deep, a parenthesis may still begin a type, and so it is taken.
-    fn sized(&self, tokens: &mut Cursor<'_>, note: Spot) -> Result<Expr<Spot>, Fault>
+    fn sized(&self, tokens: &mut Cursor<'_>, note: Spot) -> Result<Boxed<Expr<Spot>>, Fault>
         requires room { 0 < self.now.depth }
-        requires nests_expr { NestsExpr self.now.depth (E.pre self.now.expr) (E.post self.now.expr) }
-        requires nests_specs { NestsSpecs self.now.depth (S.pre self.now.specs) (S.post self.now.specs) }
-        requires nests_declarator { NestsDeclarator self.now.depth (D.pre self.now.declarator) (D.post self.now.declarator) }
-        ensures { Gives view (spec.behind_sizeof self.now.names.now (inner_at self.now.names.now self.now.depth) self.now.depth note (class.skip tokens.old)) result tokens.new }
+        requires nests { Nests self.now E.pre E.post S.pre S.post D.pre D.post }
+        ensures { Gives view (by self.now spec.behind_sizeof note (class.skip tokens.old)) result tokens.new }
     {
         tokens.skip();
         let has_paren = tokens.next_is(Punct::LeftParen);
@@ -175,19 +173,24 @@ impl<
             }
             return Err(Fault::Refused);
         }
-        let e = self.inner_expr(tokens, 15)?;
-        Ok(size_expr(self.alloc, note, e)?)
+        let e = self.inner_expr(tokens, levels::UNARY)?;
+        Ok(Boxed::new(self.alloc, Expr::SizeExpr(note, e))?)
     }
 
     /// The operand of a prefix operator, with the operator (C17 6.5.3.2, 6.5.3.3).
-    fn operand(&self, tokens: &mut Cursor<'_>, op: UnaryOp, note: Spot) -> Result<Expr<Spot>, Fault>
+    fn operand(
+        &self,
+        tokens: &mut Cursor<'_>,
+        op: UnaryOp,
+        note: Spot,
+    ) -> Result<Boxed<Expr<Spot>>, Fault>
         requires room { 0 < self.now.depth }
-        requires nests_expr { NestsExpr self.now.depth (E.pre self.now.expr) (E.post self.now.expr) }
-        ensures { Gives view (branch.operand (inner_at self.now.names.now self.now.depth) op note tokens.old) result tokens.new }
+        requires nests { Nests self.now E.pre E.post S.pre S.post D.pre D.post }
+        ensures { Gives view (branch.operand (inner_of self.now) op note tokens.old) result tokens.new }
     {
         tokens.skip();
-        let e = self.inner_expr(tokens, 14)?;
-        Ok(unary(self.alloc, note, op, e)?)
+        let e = self.inner_expr(tokens, levels::CAST)?;
+        Ok(Boxed::new(self.alloc, Expr::Unary(note, op, e))?)
     }
 
     /// What `++` or `--` stands before, with the operator (C17 6.5.3.1).
@@ -196,45 +199,43 @@ impl<
         tokens: &mut Cursor<'_>,
         op: StepOp,
         note: Spot,
-    ) -> Result<Expr<Spot>, Fault>
+    ) -> Result<Boxed<Expr<Spot>>, Fault>
         requires room { 0 < self.now.depth }
-        requires nests_expr { NestsExpr self.now.depth (E.pre self.now.expr) (E.post self.now.expr) }
-        ensures { Gives view (branch.stepping (inner_at self.now.names.now self.now.depth) op note tokens.old) result tokens.new }
+        requires nests { Nests self.now E.pre E.post S.pre S.post D.pre D.post }
+        ensures { Gives view (branch.stepping (inner_of self.now) op note tokens.old) result tokens.new }
     {
         tokens.skip();
-        let e = self.inner_expr(tokens, 15)?;
-        Ok(step(self.alloc, note, op, Side::Before, e)?)
+        let e = self.inner_expr(tokens, levels::UNARY)?;
+        Ok(Boxed::new(self.alloc, Expr::Step(note, op, Side::Before, e))?)
     }
 
     /// An integer constant as an expression (C17 6.4.4.1).
-    fn integer(&self, tokens: &mut Cursor<'_>, note: Spot) -> Result<Expr<Spot>, Fault>
+    fn integer(&self, tokens: &mut Cursor<'_>, note: Spot) -> Result<Boxed<Expr<Spot>>, Fault>
         ensures { Gives view (branch.integer_by (integer_of (class.start tokens.old)) note tokens.old) result tokens.new }
     {
         let Some((value, kind)) = tokens.integer() else {
             return Err(Fault::Refused);
         };
         tokens.skip();
-        Ok(Expr::Int(note, value, kind))
+        Ok(Boxed::new(self.alloc, Expr::Int(note, value, kind))?)
     }
 
     /// A character constant as an expression (C17 6.4.4.4).
-    fn character(&self, tokens: &mut Cursor<'_>, note: Spot) -> Result<Expr<Spot>, Fault>
+    fn character(&self, tokens: &mut Cursor<'_>, note: Spot) -> Result<Boxed<Expr<Spot>>, Fault>
         ensures { Gives view (branch.character_by (character_of (class.start tokens.old)) note tokens.old) result tokens.new }
     {
         let Some(value) = tokens.character() else {
             return Err(Fault::Refused);
         };
         tokens.skip();
-        Ok(Expr::Char(note, value))
+        Ok(Boxed::new(self.alloc, Expr::Char(note, value))?)
     }
 
     /// An expression, as far as nothing goes on behind it (C17 6.5.1, 6.5.3, 6.5.4).
-    pub fn prefix(&self, tokens: &mut Cursor<'_>, least: u8) -> Result<Expr<Spot>, Fault>
+    pub fn prefix(&self, tokens: &mut Cursor<'_>, least: u8) -> Result<Boxed<Expr<Spot>>, Fault>
         requires room { 0 < self.now.depth }
-        requires nests_expr { NestsExpr self.now.depth (E.pre self.now.expr) (E.post self.now.expr) }
-        requires nests_specs { NestsSpecs self.now.depth (S.pre self.now.specs) (S.post self.now.specs) }
-        requires nests_declarator { NestsDeclarator self.now.depth (D.pre self.now.declarator) (D.post self.now.declarator) }
-        ensures { Gives view (spec.prefix self.now.names.now (inner_at self.now.names.now self.now.depth) self.now.depth least (class.start tokens.old) (class.spot tokens.old) tokens.old) result tokens.new }
+        requires nests { Nests self.now E.pre E.post S.pre S.post D.pre D.post }
+        ensures { Gives view (by self.now spec.prefix least (class.start tokens.old) (class.spot tokens.old) tokens.old) result tokens.new }
     {
         let note = tokens.spot();
         match tokens.start() {

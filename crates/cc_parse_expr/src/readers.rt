@@ -7,10 +7,10 @@ ghost use Rattle.cc_parse_expr.specs.Modes.{mode_of};
 
 use crate::grammar::Grammar;
 use crate::mode::Mode;
+use cc_base::Spot;
 use cc_parse_tokens::{Cursor, Fault, TypedefNames};
 use cc_tree::{Declarator, Expr, Spec};
-use cc_base::Spot;
-use sqlite_items::Items;
+use sqlite_items::{Boxed, Items};
 use std::alloc::Global;
 
 /// An expression of this level at least, no deeper than `depth` (C17 6.5).
@@ -22,7 +22,7 @@ pub fn expr(
     names: &TypedefNames,
     depth: u32,
     least: u8,
-) -> Result<Expr<Spot>, Fault>
+) -> Result<Boxed<Expr<Spot>>, Fault>
     ensures { Gives view ((spec.readers names.now depth).expr least tokens.old) result tokens.new }
 {
     Grammar {
@@ -67,7 +67,7 @@ pub fn declarator(
     names: &TypedefNames,
     depth: u32,
     mode: Mode,
-) -> Result<Declarator<Spot>, Fault>
+) -> Result<Boxed<Declarator<Spot>>, Fault>
     ensures { Gives view_declarator ((spec.readers names.now depth).declarator (mode_of mode) tokens.old) result tokens.new }
 {
     Grammar {

@@ -1,28 +1,30 @@
 // What kind of expression one is, and where it begins.
 ghost use Rattle.std.specs.Prelude.{◌≡◌};
-ghost use Rattle.cc_grammar.specs.Levels as levels;
+ghost use Rattle.cc_grammar.specs.Levels as grammar_levels;
 ghost use Rattle.cc_grammar.specs.Outlines as outlines;
 ghost use Rattle.cc_tree.specs.Views.{view};
 
-use cc_parse_tokens::binary_level;
-use cc_tree::{Expr, Side};
 use cc_base::Spot;
+use cc_parse_tokens::{binary_level, levels};
+use cc_tree::{Expr, Side};
 
 /// The level of an expression: the greater, the tighter it holds together (C17 6.5).
 pub fn level<N>(e: &Expr<N>) -> u8
-    ensures { result ≡ levels.level (view e.now) }
+    ensures { result ≡ grammar_levels.level (view e.now) }
 {
     match e {
-        Expr::Name(_, _) | Expr::Int(_, _, _) | Expr::Char(_, _) | Expr::Str(_, _) => 16,
-        Expr::Paren(_, _) | Expr::Call(_, _, _) | Expr::Member(_, _, _) => 16,
-        Expr::Arrow(_, _, _) | Expr::Index(_, _, _) | Expr::Step(_, _, Side::After, _) => 16,
-        Expr::Step(_, _, Side::Before, _) | Expr::Unary(_, _, _) => 15,
-        Expr::SizeExpr(_, _) | Expr::SizeType(_, _) => 15,
-        Expr::Cast(_, _, _) => 14,
+        Expr::Name(_, _) | Expr::Int(_, _, _) | Expr::Char(_, _) | Expr::Str(_, _) =>
+            levels::POSTFIX,
+        Expr::Paren(_, _) | Expr::Call(_, _, _) | Expr::Member(_, _, _) => levels::POSTFIX,
+        Expr::Arrow(_, _, _) | Expr::Index(_, _, _) | Expr::Step(_, _, Side::After, _) =>
+            levels::POSTFIX,
+        Expr::Step(_, _, Side::Before, _) | Expr::Unary(_, _, _) => levels::UNARY,
+        Expr::SizeExpr(_, _) | Expr::SizeType(_, _) => levels::UNARY,
+        Expr::Cast(_, _, _) => levels::CAST,
         Expr::Binary(_, op, _, _) => binary_level(*op),
-        Expr::Cond(_, _, _, _) => 3,
-        Expr::Assign(_, _, _, _) => 2,
-        Expr::Comma(_, _, _) => 1,
+        Expr::Cond(_, _, _, _) => levels::CONDITIONAL,
+        Expr::Assign(_, _, _, _) => levels::ASSIGNMENT,
+        Expr::Comma(_, _, _) => levels::COMMA,
     }
 }
 

@@ -5,30 +5,36 @@ ghost use Rattle.cc_grammar.specs.Classes as class;
 ghost use Rattle.cc_grammar.specs.Reading as spec;
 ghost use Rattle.cc_tree.specs.Views.{view_constant, view_declarator, view_member, view_spec, option_of, specs_of};
 ghost use Rattle.cc_parse_tokens.specs.Gives.{Gives};
-ghost use Rattle.cc_parse_expr.specs.Modes.{inner_at};
+ghost use Rattle.cc_parse_expr.specs.Modes.{by, inner_of};
 ghost use Rattle.cc_parse_expr.specs.Parts as part;
-ghost use Rattle.cc_parse_expr.specs.Nests.{NestsExpr, NestsSpecs, NestsDeclarator};
+ghost use Rattle.cc_parse_expr.specs.Nests.{Nests};
 
 use crate::grammar::Grammar;
 use crate::identifier::identifier;
 use crate::mode::Mode;
-use cc_lex::Punct;
-use cc_parse_tokens::{Cursor, Fault, SpecStart, TypedefNames};
-use cc_tree::{Constant, Declarator, Expr, Member, Spec};
-use cc_tree_make::{constant, copied_text};
 use cc_base::{Spot, Text};
-use sqlite_items::Items;
+use cc_lex::Punct;
+use cc_parse_tokens::{Cursor, Fault, SpecStart, TypedefNames, levels};
+use cc_tree::{Constant, Declarator, Expr, Member, Spec};
+use cc_tree_make::copied_text;
+use sqlite_items::{Boxed, Items};
 use std::alloc::Global;
 
 impl<
     'n,
-    E: Fn(Global, &mut Cursor<'_>, &TypedefNames, u32, u8) -> Result<Expr<Spot>, Fault>,
+    E: Fn(Global, &mut Cursor<'_>, &TypedefNames, u32, u8) -> Result<Boxed<Expr<Spot>>, Fault>,
     S: Fn(Global, &mut Cursor<'_>, &TypedefNames, u32) -> Result<Items<Spec<Spot>>, Fault>,
-    D: Fn(Global, &mut Cursor<'_>, &TypedefNames, u32, Mode) -> Result<Declarator<Spot>, Fault>,
+    D: Fn(
+        Global,
+        &mut Cursor<'_>,
+        &TypedefNames,
+        u32,
+        Mode,
+    ) -> Result<Boxed<Declarator<Spot>>, Fault>,
 > Grammar<'n, E, S, D> {
     /// A tag, if one comes (C17 6.7.2.3).
     fn tag(&self, tokens: &mut Cursor<'_>) -> Result<Option<Text>, Fault>
-        ensures { Gives (λ x. x) (spec.tag self.now.names.now (inner_at self.now.names.now self.now.depth) self.now.depth tokens.old) result tokens.new }
+        ensures { Gives (λ x. x) (by self.now spec.tag tokens.old) result tokens.new }
     {
         let Some(name) = tokens.ident() else {
             return Ok(None);
@@ -41,12 +47,12 @@ impl<
     /// Declarators with names, one at least, with commas between them.
     fn member_declarators(&self, tokens: &mut Cursor<'_>) -> Result<Items<Declarator<Spot>>, Fault>
         requires room { 0 < self.now.depth }
-        requires nests_declarator { NestsDeclarator self.now.depth (D.pre self.now.declarator) (D.post self.now.declarator) }
-        ensures { Gives (map view_declarator) (spec.separated ((inner_at self.now.names.now self.now.depth).declarator spec.with_name) tokens.old) result tokens.new }
+        requires nests { Nests self.now E.pre E.post S.pre S.post D.pre D.post }
+        ensures { Gives (map view_declarator) (spec.separated ((inner_of self.now).declarator spec.with_name) tokens.old) result tokens.new }
     {
         let mut found = Items::new(self.alloc);
-        for _turn in 0..tokens.len() {
-            found.push(self.inner_declarator(tokens, Mode::Named)?)?;
+        for _round in 0..tokens.len() {
+            found.push(self.inner_declarator(tokens, Mode::Named)?.into_inner())?;
             if !tokens.next_is(Punct::Comma) {
                 return Ok(found);
             }
@@ -58,9 +64,8 @@ impl<
     /// Members that are declared together, with their semicolon (C17 6.7.2.1).
     fn member_line(&self, tokens: &mut Cursor<'_>) -> Result<Member<Spot>, Fault>
         requires room { 0 < self.now.depth }
-        requires nests_specs { NestsSpecs self.now.depth (S.pre self.now.specs) (S.post self.now.specs) }
-        requires nests_declarator { NestsDeclarator self.now.depth (D.pre self.now.declarator) (D.post self.now.declarator) }
-        ensures { Gives view_member (spec.member_line self.now.names.now (inner_at self.now.names.now self.now.depth) self.now.depth tokens.old) result tokens.new }
+        requires nests { Nests self.now E.pre E.post S.pre S.post D.pre D.post }
+        ensures { Gives view_member (by self.now spec.member_line tokens.old) result tokens.new }
     {
         let note = tokens.spot();
         let specs = self.inner_specs(tokens)?;
@@ -76,12 +81,11 @@ impl<
     /// The members of a struct up to the brace behind them, one line at least.
     fn member_lines(&self, tokens: &mut Cursor<'_>) -> Result<Items<Member<Spot>>, Fault>
         requires room { 0 < self.now.depth }
-        requires nests_specs { NestsSpecs self.now.depth (S.pre self.now.specs) (S.post self.now.specs) }
-        requires nests_declarator { NestsDeclarator self.now.depth (D.pre self.now.declarator) (D.post self.now.declarator) }
-        ensures { Gives (map view_member) (part.member_lines self.now.names.now (inner_at self.now.names.now self.now.depth) self.now.depth tokens.old) result tokens.new }
+        requires nests { Nests self.now E.pre E.post S.pre S.post D.pre D.post }
+        ensures { Gives (map view_member) (by self.now part.member_lines tokens.old) result tokens.new }
     {
         let mut found = Items::new(self.alloc);
-        for _turn in 0..tokens.len() {
+        for _round in 0..tokens.len() {
             found.push(self.member_line(tokens)?)?;
             if tokens.next_is(Punct::RightBrace) {
                 return Ok(found);
@@ -93,9 +97,8 @@ impl<
     /// The members of a struct in their braces, where there is room for them.
     fn member_braces(&self, tokens: &mut Cursor<'_>) -> Result<Items<Member<Spot>>, Fault>
         requires room { 0 < self.now.depth }
-        requires nests_specs { NestsSpecs self.now.depth (S.pre self.now.specs) (S.post self.now.specs) }
-        requires nests_declarator { NestsDeclarator self.now.depth (D.pre self.now.declarator) (D.post self.now.declarator) }
-        ensures { Gives (map view_member) (part.member_braces self.now.names.now (inner_at self.now.names.now self.now.depth) self.now.depth tokens.old) result tokens.new }
+        requires nests { Nests self.now E.pre E.post S.pre S.post D.pre D.post }
+        ensures { Gives (map view_member) (by self.now part.member_braces tokens.old) result tokens.new }
     {
         tokens.take(Punct::LeftBrace)?;
         let found = self.member_lines(tokens)?;
@@ -114,9 +117,8 @@ impl<
 
     /// The members of a struct in their braces, which count (C17 6.7.2.1).
     fn member_list(&self, tokens: &mut Cursor<'_>) -> Result<Items<Member<Spot>>, Fault>
-        requires nests_specs { 0 < self.now.depth → NestsSpecs self.now.depth (S.pre self.now.specs) (S.post self.now.specs) }
-        requires nests_declarator { 0 < self.now.depth → NestsDeclarator self.now.depth (D.pre self.now.declarator) (D.post self.now.declarator) }
-        ensures { Gives (map view_member) (spec.member_list self.now.names.now (inner_at self.now.names.now self.now.depth) self.now.depth tokens.old) result tokens.new }
+        requires nests { Nests self.now E.pre E.post S.pre S.post D.pre D.post }
+        ensures { Gives (map view_member) (by self.now spec.member_list tokens.old) result tokens.new }
     {
         if self.depth == 0 {
             self.mark_brace(tokens);
@@ -126,38 +128,38 @@ impl<
     }
 
     /// The value of an enumeration constant, if one is given (C17 6.7.2.2).
-    fn constant_value(&self, tokens: &mut Cursor<'_>) -> Result<Option<Expr<Spot>>, Fault>
+    fn constant_value(&self, tokens: &mut Cursor<'_>) -> Result<Option<Boxed<Expr<Spot>>>, Fault>
         requires room { 0 < self.now.depth }
-        requires nests_expr { NestsExpr self.now.depth (E.pre self.now.expr) (E.post self.now.expr) }
-        ensures { Gives option_of (spec.constant_value self.now.names.now (inner_at self.now.names.now self.now.depth) self.now.depth tokens.old) result tokens.new }
+        requires nests { Nests self.now E.pre E.post S.pre S.post D.pre D.post }
+        ensures { Gives option_of (by self.now spec.constant_value tokens.old) result tokens.new }
     {
         if !tokens.next_is(Punct::Equal) {
             return Ok(None);
         }
         tokens.skip();
-        Ok(Some(self.inner_expr(tokens, 3)?))
+        Ok(Some(self.inner_expr(tokens, levels::CONDITIONAL)?))
     }
 
     /// An enumeration constant (C17 6.7.2.2).
     fn one_constant(&self, tokens: &mut Cursor<'_>) -> Result<Constant<Spot>, Fault>
         requires room { 0 < self.now.depth }
-        requires nests_expr { NestsExpr self.now.depth (E.pre self.now.expr) (E.post self.now.expr) }
-        ensures { Gives view_constant (spec.one_constant self.now.names.now (inner_at self.now.names.now self.now.depth) self.now.depth tokens.old) result tokens.new }
+        requires nests { Nests self.now E.pre E.post S.pre S.post D.pre D.post }
+        ensures { Gives view_constant (by self.now spec.one_constant tokens.old) result tokens.new }
     {
         let note = tokens.spot();
         let name = identifier(self.alloc, tokens, self.names)?;
         let value = self.constant_value(tokens)?;
-        Ok(constant(self.alloc, note, name, value)?)
+        Ok(Constant { note, name, value })
     }
 
     /// Enumeration constants with the brace behind them, and whether a comma stands before it.
     fn constants(&self, tokens: &mut Cursor<'_>) -> Result<(Items<Constant<Spot>>, bool), Fault>
         requires room { 0 < self.now.depth }
-        requires nests_expr { NestsExpr self.now.depth (E.pre self.now.expr) (E.post self.now.expr) }
-        ensures { Gives (λ x. (map view_constant x.0, x.1)) (part.constants self.now.names.now (inner_at self.now.names.now self.now.depth) self.now.depth tokens.old) result tokens.new }
+        requires nests { Nests self.now E.pre E.post S.pre S.post D.pre D.post }
+        ensures { Gives (λ x. (map view_constant x.0, x.1)) (by self.now part.constants tokens.old) result tokens.new }
     {
         let mut found = Items::new(self.alloc);
-        for _turn in 0..tokens.len() {
+        for _round in 0..tokens.len() {
             found.push(self.one_constant(tokens)?)?;
             if !tokens.next_is(Punct::Comma) {
                 tokens.take(Punct::RightBrace)?;
@@ -178,8 +180,8 @@ impl<
         tokens: &mut Cursor<'_>,
     ) -> Result<(Items<Constant<Spot>>, bool), Fault>
         requires room { 0 < self.now.depth }
-        requires nests_expr { NestsExpr self.now.depth (E.pre self.now.expr) (E.post self.now.expr) }
-        ensures { Gives (λ x. (map view_constant x.0, x.1)) (part.constant_braces self.now.names.now (inner_at self.now.names.now self.now.depth) self.now.depth tokens.old) result tokens.new }
+        requires nests { Nests self.now E.pre E.post S.pre S.post D.pre D.post }
+        ensures { Gives (λ x. (map view_constant x.0, x.1)) (by self.now part.constant_braces tokens.old) result tokens.new }
     {
         tokens.take(Punct::LeftBrace)?;
         self.constants(tokens)
@@ -187,8 +189,8 @@ impl<
 
     /// Enumeration constants in their braces, which count, and whether a comma stands behind the last (C17 6.7.2.2).
     fn constant_list(&self, tokens: &mut Cursor<'_>) -> Result<(Items<Constant<Spot>>, bool), Fault>
-        requires nests_expr { 0 < self.now.depth → NestsExpr self.now.depth (E.pre self.now.expr) (E.post self.now.expr) }
-        ensures { Gives (λ x. (map view_constant x.0, x.1)) (spec.constant_list self.now.names.now (inner_at self.now.names.now self.now.depth) self.now.depth tokens.old) result tokens.new }
+        requires nests { Nests self.now E.pre E.post S.pre S.post D.pre D.post }
+        ensures { Gives (λ x. (map view_constant x.0, x.1)) (by self.now spec.constant_list tokens.old) result tokens.new }
     {
         if self.depth == 0 {
             self.mark_brace(tokens);
@@ -199,16 +201,15 @@ impl<
 
     /// Whether there is no tag.
     fn is_untagged(&self, tag: &Option<Text>) -> bool
-        ensures { result ≡ spec.untagged self.now.names.now (inner_at self.now.names.now self.now.depth) self.now.depth tag.now }
+        ensures { result ≡ by self.now spec.untagged tag.now }
     {
         tag.is_none()
     }
 
     /// What stands behind `struct` (C17 6.7.2.1).
     fn struct_spec(&self, tokens: &mut Cursor<'_>, note: Spot) -> Result<Spec<Spot>, Fault>
-        requires nests_specs { 0 < self.now.depth → NestsSpecs self.now.depth (S.pre self.now.specs) (S.post self.now.specs) }
-        requires nests_declarator { 0 < self.now.depth → NestsDeclarator self.now.depth (D.pre self.now.declarator) (D.post self.now.declarator) }
-        ensures { Gives view_spec (spec.spec_by self.now.names.now (inner_at self.now.names.now self.now.depth) self.now.depth class.spec_struct note tokens.old) result tokens.new }
+        requires nests { Nests self.now E.pre E.post S.pre S.post D.pre D.post }
+        ensures { Gives view_spec (by self.now spec.spec_by class.spec_struct note tokens.old) result tokens.new }
     {
         tokens.skip();
         let tag = self.tag(tokens)?;
@@ -222,9 +223,8 @@ impl<
         note: Spot,
         tag: Option<Text>,
     ) -> Result<Spec<Spot>, Fault>
-        requires nests_specs { 0 < self.now.depth → NestsSpecs self.now.depth (S.pre self.now.specs) (S.post self.now.specs) }
-        requires nests_declarator { 0 < self.now.depth → NestsDeclarator self.now.depth (D.pre self.now.declarator) (D.post self.now.declarator) }
-        ensures { Gives view_spec (part.struct_of self.now.names.now (inner_at self.now.names.now self.now.depth) self.now.depth note tag tokens.old) result tokens.new }
+        requires nests { Nests self.now E.pre E.post S.pre S.post D.pre D.post }
+        ensures { Gives view_spec (by self.now part.struct_of note tag tokens.old) result tokens.new }
     {
         if tokens.next_is(Punct::LeftBrace) || self.is_untagged(&tag) {
             let members = self.member_list(tokens)?;
@@ -235,8 +235,8 @@ impl<
 
     /// What stands behind `enum` (C17 6.7.2.2).
     fn enum_spec(&self, tokens: &mut Cursor<'_>, note: Spot) -> Result<Spec<Spot>, Fault>
-        requires nests_expr { 0 < self.now.depth → NestsExpr self.now.depth (E.pre self.now.expr) (E.post self.now.expr) }
-        ensures { Gives view_spec (spec.spec_by self.now.names.now (inner_at self.now.names.now self.now.depth) self.now.depth class.spec_enum note tokens.old) result tokens.new }
+        requires nests { Nests self.now E.pre E.post S.pre S.post D.pre D.post }
+        ensures { Gives view_spec (by self.now spec.spec_by class.spec_enum note tokens.old) result tokens.new }
     {
         tokens.skip();
         let tag = self.tag(tokens)?;
@@ -250,8 +250,8 @@ impl<
         note: Spot,
         tag: Option<Text>,
     ) -> Result<Spec<Spot>, Fault>
-        requires nests_expr { 0 < self.now.depth → NestsExpr self.now.depth (E.pre self.now.expr) (E.post self.now.expr) }
-        ensures { Gives view_spec (part.enum_of self.now.names.now (inner_at self.now.names.now self.now.depth) self.now.depth note tag tokens.old) result tokens.new }
+        requires nests { Nests self.now E.pre E.post S.pre S.post D.pre D.post }
+        ensures { Gives view_spec (by self.now part.enum_of note tag tokens.old) result tokens.new }
     {
         if tokens.next_is(Punct::LeftBrace) || self.is_untagged(&tag) {
             let (constants, trailing) = self.constant_list(tokens)?;
@@ -279,10 +279,8 @@ impl<
         start: SpecStart,
         note: Spot,
     ) -> Result<Spec<Spot>, Fault>
-        requires nests_expr { 0 < self.now.depth → NestsExpr self.now.depth (E.pre self.now.expr) (E.post self.now.expr) }
-        requires nests_specs { 0 < self.now.depth → NestsSpecs self.now.depth (S.pre self.now.specs) (S.post self.now.specs) }
-        requires nests_declarator { 0 < self.now.depth → NestsDeclarator self.now.depth (D.pre self.now.declarator) (D.post self.now.declarator) }
-        ensures { Gives view_spec (part.spec_of_class self.now.names.now (inner_at self.now.names.now self.now.depth) self.now.depth start note tokens.old) result tokens.new }
+        requires nests { Nests self.now E.pre E.post S.pre S.post D.pre D.post }
+        ensures { Gives view_spec (by self.now part.spec_of_class start note tokens.old) result tokens.new }
     {
         match start {
             SpecStart::Word(word) => {
@@ -299,10 +297,8 @@ impl<
     /// A specifier (C17 6.7.1 to 6.7.4).
     #[tactic(auto, using(crate::proofs::SpecClasses::spec_by_class))]
     fn spec(&self, tokens: &mut Cursor<'_>) -> Result<Spec<Spot>, Fault>
-        requires nests_expr { 0 < self.now.depth → NestsExpr self.now.depth (E.pre self.now.expr) (E.post self.now.expr) }
-        requires nests_specs { 0 < self.now.depth → NestsSpecs self.now.depth (S.pre self.now.specs) (S.post self.now.specs) }
-        requires nests_declarator { 0 < self.now.depth → NestsDeclarator self.now.depth (D.pre self.now.declarator) (D.post self.now.declarator) }
-        ensures { Gives view_spec (part.spec self.now.names.now (inner_at self.now.names.now self.now.depth) self.now.depth tokens.old) result tokens.new }
+        requires nests { Nests self.now E.pre E.post S.pre S.post D.pre D.post }
+        ensures { Gives view_spec (by self.now part.spec tokens.old) result tokens.new }
     {
         let start = tokens.spec_start(self.names);
         let note = tokens.spot();
@@ -311,23 +307,19 @@ impl<
 
     /// Specifiers, one at least, as long as another begins.
     pub fn specs(&self, tokens: &mut Cursor<'_>) -> Result<Items<Spec<Spot>>, Fault>
-        requires nests_expr { 0 < self.now.depth → NestsExpr self.now.depth (E.pre self.now.expr) (E.post self.now.expr) }
-        requires nests_specs { 0 < self.now.depth → NestsSpecs self.now.depth (S.pre self.now.specs) (S.post self.now.specs) }
-        requires nests_declarator { 0 < self.now.depth → NestsDeclarator self.now.depth (D.pre self.now.declarator) (D.post self.now.declarator) }
-        ensures { Gives specs_of (spec.specs self.now.names.now (inner_at self.now.names.now self.now.depth) self.now.depth tokens.old) result tokens.new }
+        requires nests { Nests self.now E.pre E.post S.pre S.post D.pre D.post }
+        ensures { Gives specs_of (by self.now spec.specs tokens.old) result tokens.new }
     {
         self.spec_list(tokens)
     }
 
     /// Specifiers as they come, one at least.
     fn spec_list(&self, tokens: &mut Cursor<'_>) -> Result<Items<Spec<Spot>>, Fault>
-        requires nests_expr { 0 < self.now.depth → NestsExpr self.now.depth (E.pre self.now.expr) (E.post self.now.expr) }
-        requires nests_specs { 0 < self.now.depth → NestsSpecs self.now.depth (S.pre self.now.specs) (S.post self.now.specs) }
-        requires nests_declarator { 0 < self.now.depth → NestsDeclarator self.now.depth (D.pre self.now.declarator) (D.post self.now.declarator) }
-        ensures { Gives (map view_spec) (spec.repeated (starts_spec self.now.names.now) (part.spec self.now.names.now (inner_at self.now.names.now self.now.depth) self.now.depth) tokens.old) result tokens.new }
+        requires nests { Nests self.now E.pre E.post S.pre S.post D.pre D.post }
+        ensures { Gives (map view_spec) (spec.repeated (starts_spec self.now.names.now) (by self.now part.spec) tokens.old) result tokens.new }
     {
         let mut found = Items::new(self.alloc);
-        for _turn in 0..tokens.len() {
+        for _round in 0..tokens.len() {
             found.push(self.spec(tokens)?)?;
             if !tokens.starts_spec(self.names) {
                 return Ok(found);

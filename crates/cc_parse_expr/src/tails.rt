@@ -7,32 +7,37 @@ ghost use Rattle.cc_tree.specs.Views.{view};
 ghost use Rattle.cc_parse_tokens.specs.Classes.{tail_of};
 ghost use Rattle.cc_parse_tokens.specs.Gives.{Gives};
 ghost use Rattle.cc_parse_expr.specs.Branches as branch;
-ghost use Rattle.cc_parse_expr.specs.Modes.{inner_at};
-ghost use Rattle.cc_parse_expr.specs.Nests.{NestsExpr};
+ghost use Rattle.cc_parse_expr.specs.Modes.{by, inner_of};
+ghost use Rattle.cc_parse_expr.specs.Nests.{Nests};
 
 use crate::grammar::Grammar;
 use crate::identifier::identifier;
 use crate::mode::Mode;
 use crate::shape::begins;
-use cc_lex::Punct;
-use cc_parse_tokens::{Cursor, Fault, Tail, TypedefNames, binary_level};
-use cc_tree::{AssignOp, BinaryOp, Declarator, Expr, Side, Spec, StepOp};
-use cc_tree_make::{arrow, assign, binary, call, choice, comma, index, member, step};
 use cc_base::Spot;
-use sqlite_items::Items;
+use cc_lex::Punct;
+use cc_parse_tokens::{Cursor, Fault, Tail, TypedefNames, binary_level, levels};
+use cc_tree::{AssignOp, BinaryOp, Declarator, Expr, Side, Spec, StepOp};
+use sqlite_items::{Boxed, Items};
 use std::alloc::Global;
 
 impl<
     'n,
-    E: Fn(Global, &mut Cursor<'_>, &TypedefNames, u32, u8) -> Result<Expr<Spot>, Fault>,
+    E: Fn(Global, &mut Cursor<'_>, &TypedefNames, u32, u8) -> Result<Boxed<Expr<Spot>>, Fault>,
     S: Fn(Global, &mut Cursor<'_>, &TypedefNames, u32) -> Result<Items<Spec<Spot>>, Fault>,
-    D: Fn(Global, &mut Cursor<'_>, &TypedefNames, u32, Mode) -> Result<Declarator<Spot>, Fault>,
+    D: Fn(
+        Global,
+        &mut Cursor<'_>,
+        &TypedefNames,
+        u32,
+        Mode,
+    ) -> Result<Boxed<Declarator<Spot>>, Fault>,
 > Grammar<'n, E, S, D> {
     /// The arguments behind a `(`, with the `)` (C17 6.5.2).
     fn arguments(&self, tokens: &mut Cursor<'_>) -> Result<Items<Expr<Spot>>, Fault>
         requires room { 0 < self.now.depth }
-        requires nests { NestsExpr self.now.depth (E.pre self.now.expr) (E.post self.now.expr) }
-        ensures { Gives (map view) (spec.arguments self.now.names.now (inner_at self.now.names.now self.now.depth) self.now.depth tokens.old) result tokens.new }
+        requires nests { Nests self.now E.pre E.post S.pre S.post D.pre D.post }
+        ensures { Gives (map view) (by self.now spec.arguments tokens.old) result tokens.new }
     {
         if tokens.next_is(Punct::RightParen) {
             tokens.skip();
@@ -46,12 +51,12 @@ impl<
     /// Arguments, one at least, with commas between them.
     fn argument_list(&self, tokens: &mut Cursor<'_>) -> Result<Items<Expr<Spot>>, Fault>
         requires room { 0 < self.now.depth }
-        requires nests { NestsExpr self.now.depth (E.pre self.now.expr) (E.post self.now.expr) }
-        ensures { Gives (map view) (spec.separated ((inner_at self.now.names.now self.now.depth).expr 2) tokens.old) result tokens.new }
+        requires nests { Nests self.now E.pre E.post S.pre S.post D.pre D.post }
+        ensures { Gives (map view) (spec.separated ((inner_of self.now).expr 2) tokens.old) result tokens.new }
     {
         let mut found = Items::new(self.alloc);
-        for _turn in 0..tokens.len() {
-            found.push(self.inner_expr(tokens, 2)?)?;
+        for _round in 0..tokens.len() {
+            found.push(self.inner_expr(tokens, levels::ASSIGNMENT)?.into_inner())?;
             if !tokens.next_is(Punct::Comma) {
                 return Ok(found);
             }
@@ -64,46 +69,46 @@ impl<
     fn operated(
         &self,
         tokens: &mut Cursor<'_>,
-        left: Expr<Spot>,
+        left: Boxed<Expr<Spot>>,
         op: BinaryOp,
         note: Spot,
-    ) -> Result<Expr<Spot>, Fault>
+    ) -> Result<Boxed<Expr<Spot>>, Fault>
         requires room { 0 < self.now.depth }
-        requires nests { NestsExpr self.now.depth (E.pre self.now.expr) (E.post self.now.expr) }
-        ensures { Gives view (spec.go_on self.now.names.now (inner_at self.now.names.now self.now.depth) self.now.depth (view left) (class.goes_binary op) note tokens.old) result tokens.new }
+        requires nests { Nests self.now E.pre E.post S.pre S.post D.pre D.post }
+        ensures { Gives view (by self.now spec.go_on (view left) (class.goes_binary op) note tokens.old) result tokens.new }
     {
         let right = self.inner_expr(tokens, binary_level(op) + 1)?;
-        Ok(binary(self.alloc, note, op, left, right)?)
+        Ok(Boxed::new(self.alloc, Expr::Binary(note, op, left, right))?)
     }
 
     /// What is assigned (C17 6.5.16).
     fn assigned(
         &self,
         tokens: &mut Cursor<'_>,
-        left: Expr<Spot>,
+        left: Boxed<Expr<Spot>>,
         op: AssignOp,
         note: Spot,
-    ) -> Result<Expr<Spot>, Fault>
+    ) -> Result<Boxed<Expr<Spot>>, Fault>
         requires room { 0 < self.now.depth }
-        requires nests { NestsExpr self.now.depth (E.pre self.now.expr) (E.post self.now.expr) }
-        ensures { Gives view (spec.go_on self.now.names.now (inner_at self.now.names.now self.now.depth) self.now.depth (view left) (class.goes_assign op) note tokens.old) result tokens.new }
+        requires nests { Nests self.now E.pre E.post S.pre S.post D.pre D.post }
+        ensures { Gives view (by self.now spec.go_on (view left) (class.goes_assign op) note tokens.old) result tokens.new }
     {
-        let right = self.inner_expr(tokens, 2)?;
-        Ok(assign(self.alloc, note, op, left, right)?)
+        let right = self.inner_expr(tokens, levels::ASSIGNMENT)?;
+        Ok(Boxed::new(self.alloc, Expr::Assign(note, op, left, right))?)
     }
 
     /// The two choices behind a `?` (C17 6.5.15).
     fn chosen(
         &self,
         tokens: &mut Cursor<'_>,
-        left: Expr<Spot>,
+        left: Boxed<Expr<Spot>>,
         note: Spot,
-    ) -> Result<Expr<Spot>, Fault>
+    ) -> Result<Boxed<Expr<Spot>>, Fault>
         requires room { 0 < self.now.depth }
-        requires nests { NestsExpr self.now.depth (E.pre self.now.expr) (E.post self.now.expr) }
-        ensures { Gives view (spec.go_on self.now.names.now (inner_at self.now.names.now self.now.depth) self.now.depth (view left) class.goes_question note tokens.old) result tokens.new }
+        requires nests { Nests self.now E.pre E.post S.pre S.post D.pre D.post }
+        ensures { Gives view (by self.now spec.go_on (view left) class.goes_question note tokens.old) result tokens.new }
     {
-        let yes = self.inner_expr(tokens, 1)?;
+        let yes = self.inner_expr(tokens, levels::COMMA)?;
         self.chosen_else(tokens, left, yes, note)
     }
 
@@ -111,110 +116,115 @@ impl<
     fn chosen_else(
         &self,
         tokens: &mut Cursor<'_>,
-        test: Expr<Spot>,
-        yes: Expr<Spot>,
+        test: Boxed<Expr<Spot>>,
+        yes: Boxed<Expr<Spot>>,
         note: Spot,
-    ) -> Result<Expr<Spot>, Fault>
+    ) -> Result<Boxed<Expr<Spot>>, Fault>
         requires room { 0 < self.now.depth }
-        requires nests { NestsExpr self.now.depth (E.pre self.now.expr) (E.post self.now.expr) }
-        ensures { Gives view (branch.choosing (inner_at self.now.names.now self.now.depth) (view test) (view yes) note tokens.old) result tokens.new }
+        requires nests { Nests self.now E.pre E.post S.pre S.post D.pre D.post }
+        ensures { Gives view (branch.choosing (inner_of self.now) (view test) (view yes) note tokens.old) result tokens.new }
     {
         tokens.take(Punct::Colon)?;
-        let no = self.inner_expr(tokens, 3)?;
-        Ok(choice(self.alloc, note, test, yes, no)?)
+        let no = self.inner_expr(tokens, levels::CONDITIONAL)?;
+        Ok(Boxed::new(self.alloc, Expr::Cond(note, test, yes, no))?)
     }
 
     /// What follows a comma (C17 6.5.17).
     fn sequenced(
         &self,
         tokens: &mut Cursor<'_>,
-        left: Expr<Spot>,
+        left: Boxed<Expr<Spot>>,
         note: Spot,
-    ) -> Result<Expr<Spot>, Fault>
+    ) -> Result<Boxed<Expr<Spot>>, Fault>
         requires room { 0 < self.now.depth }
-        requires nests { NestsExpr self.now.depth (E.pre self.now.expr) (E.post self.now.expr) }
-        ensures { Gives view (spec.go_on self.now.names.now (inner_at self.now.names.now self.now.depth) self.now.depth (view left) class.goes_comma note tokens.old) result tokens.new }
+        requires nests { Nests self.now E.pre E.post S.pre S.post D.pre D.post }
+        ensures { Gives view (by self.now spec.go_on (view left) class.goes_comma note tokens.old) result tokens.new }
     {
-        let right = self.inner_expr(tokens, 2)?;
-        Ok(comma(self.alloc, note, left, right)?)
+        let right = self.inner_expr(tokens, levels::ASSIGNMENT)?;
+        Ok(Boxed::new(self.alloc, Expr::Comma(note, left, right))?)
     }
 
     /// The arguments of a call, which stands where the function called begins (C17 6.5.2.2).
-    fn called(&self, tokens: &mut Cursor<'_>, left: Expr<Spot>) -> Result<Expr<Spot>, Fault>
+    fn called(
+        &self,
+        tokens: &mut Cursor<'_>,
+        left: Boxed<Expr<Spot>>,
+    ) -> Result<Boxed<Expr<Spot>>, Fault>
         requires room { 0 < self.now.depth }
-        requires nests { NestsExpr self.now.depth (E.pre self.now.expr) (E.post self.now.expr) }
-        ensures { Gives view (spec.go_on self.now.names.now (inner_at self.now.names.now self.now.depth) self.now.depth (view left) class.goes_call (outlines.begins (view left)) tokens.old) result tokens.new }
+        requires nests { Nests self.now E.pre E.post S.pre S.post D.pre D.post }
+        ensures { Gives view (by self.now spec.go_on (view left) class.goes_call (outlines.begins (view left)) tokens.old) result tokens.new }
     {
         let arguments = self.arguments(tokens)?;
-        Ok(call(self.alloc, begins(&left), left, arguments)?)
+        let note = begins(left.get());
+        Ok(Boxed::new(self.alloc, Expr::Call(note, left, arguments))?)
     }
 
     /// The index behind a `[`, with the `]` (C17 6.5.2.1).
     fn indexed(
         &self,
         tokens: &mut Cursor<'_>,
-        left: Expr<Spot>,
+        left: Boxed<Expr<Spot>>,
         note: Spot,
-    ) -> Result<Expr<Spot>, Fault>
+    ) -> Result<Boxed<Expr<Spot>>, Fault>
         requires room { 0 < self.now.depth }
-        requires nests { NestsExpr self.now.depth (E.pre self.now.expr) (E.post self.now.expr) }
-        ensures { Gives view (spec.go_on self.now.names.now (inner_at self.now.names.now self.now.depth) self.now.depth (view left) class.goes_index note tokens.old) result tokens.new }
+        requires nests { Nests self.now E.pre E.post S.pre S.post D.pre D.post }
+        ensures { Gives view (by self.now spec.go_on (view left) class.goes_index note tokens.old) result tokens.new }
     {
-        let at = self.inner_expr(tokens, 1)?;
+        let at = self.inner_expr(tokens, levels::COMMA)?;
         tokens.take(Punct::RightBracket)?;
-        Ok(index(self.alloc, note, left, at)?)
+        Ok(Boxed::new(self.alloc, Expr::Index(note, left, at))?)
     }
 
     /// The member behind a `.` (C17 6.5.2.3).
     fn selected(
         &self,
         tokens: &mut Cursor<'_>,
-        left: Expr<Spot>,
+        left: Boxed<Expr<Spot>>,
         note: Spot,
-    ) -> Result<Expr<Spot>, Fault>
-        ensures { Gives view (spec.go_on self.now.names.now (inner_at self.now.names.now self.now.depth) self.now.depth (view left) class.goes_dot note tokens.old) result tokens.new }
+    ) -> Result<Boxed<Expr<Spot>>, Fault>
+        ensures { Gives view (by self.now spec.go_on (view left) class.goes_dot note tokens.old) result tokens.new }
     {
         let name = identifier(self.alloc, tokens, self.names)?;
-        Ok(member(self.alloc, note, left, name)?)
+        Ok(Boxed::new(self.alloc, Expr::Member(note, left, name))?)
     }
 
     /// The member behind a `->` (C17 6.5.2.3).
     fn selected_behind(
         &self,
         tokens: &mut Cursor<'_>,
-        left: Expr<Spot>,
+        left: Boxed<Expr<Spot>>,
         note: Spot,
-    ) -> Result<Expr<Spot>, Fault>
-        ensures { Gives view (spec.go_on self.now.names.now (inner_at self.now.names.now self.now.depth) self.now.depth (view left) class.goes_arrow note tokens.old) result tokens.new }
+    ) -> Result<Boxed<Expr<Spot>>, Fault>
+        ensures { Gives view (by self.now spec.go_on (view left) class.goes_arrow note tokens.old) result tokens.new }
     {
         let name = identifier(self.alloc, tokens, self.names)?;
-        Ok(arrow(self.alloc, note, left, name)?)
+        Ok(Boxed::new(self.alloc, Expr::Arrow(note, left, name))?)
     }
 
     /// `++` or `--` behind an expression (C17 6.5.2.4).
     fn stepped(
         &self,
         tokens: &mut Cursor<'_>,
-        left: Expr<Spot>,
+        left: Boxed<Expr<Spot>>,
         op: StepOp,
         note: Spot,
-    ) -> Result<Expr<Spot>, Fault>
-        ensures { Gives view (spec.go_on self.now.names.now (inner_at self.now.names.now self.now.depth) self.now.depth (view left) (class.goes_step op) note tokens.old) result tokens.new }
+    ) -> Result<Boxed<Expr<Spot>>, Fault>
+        ensures { Gives view (by self.now spec.go_on (view left) (class.goes_step op) note tokens.old) result tokens.new }
     {
-        Ok(step(self.alloc, note, op, Side::After, left)?)
+        Ok(Boxed::new(self.alloc, Expr::Step(note, op, Side::After, left))?)
     }
 
     /// What goes on behind an expression, after its token (C17 6.5.2 to 6.5.17).
     pub fn go_on(
         &self,
         tokens: &mut Cursor<'_>,
-        left: Expr<Spot>,
+        left: Boxed<Expr<Spot>>,
         tail: Tail,
         note: Spot,
-    ) -> Result<Expr<Spot>, Fault>
+    ) -> Result<Boxed<Expr<Spot>>, Fault>
         requires room { 0 < self.now.depth }
-        requires nests { NestsExpr self.now.depth (E.pre self.now.expr) (E.post self.now.expr) }
-        ensures { Gives view (spec.go_on self.now.names.now (inner_at self.now.names.now self.now.depth) self.now.depth (view left) (tail_of tail) note tokens.old) result tokens.new }
+        requires nests { Nests self.now E.pre E.post S.pre S.post D.pre D.post }
+        ensures { Gives view (by self.now spec.go_on (view left) (tail_of tail) note tokens.old) result tokens.new }
     {
         match tail {
             Tail::Binary(op) => self.operated(tokens, left, op, note),

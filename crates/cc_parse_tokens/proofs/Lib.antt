@@ -1,3 +1,3 @@
-pub mod ByTurns
+pub mod ByRounds
 pub mod NameLists
-pub mod Turns
+pub mod Rounds

@@ -1,3 +1,3 @@
 pub mod Classes
 pub mod Gives
-pub mod Turns
+pub mod Rounds

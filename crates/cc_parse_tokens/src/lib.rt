@@ -7,10 +7,9 @@
 mod class;
 mod cursor;
 mod fault;
+pub mod levels;
 mod names;
 mod table;
-#[cfg(test)]
-mod tests;
 
 pub use class::{SpecStart, Start, StmtStart, Tail};
 pub use cursor::Cursor;

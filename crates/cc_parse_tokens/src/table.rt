@@ -1,10 +1,11 @@
 // The tables of tokens: which class a punctuator or keyword is of.
 ghost use Rattle.std.specs.Prelude.{◌≡◌, ◌<◌, ◌≤◌};
 ghost use Rattle.cc_grammar.specs.Classes as grammar;
-ghost use Rattle.cc_grammar.specs.Levels as levels;
+ghost use Rattle.cc_grammar.specs.Levels as grammar_levels;
 ghost use Rattle.cc_parse_tokens.specs.Classes.{class_of_start, class_of_spec, tail_of, stmt_of};
 
 use crate::class::{SpecStart, Start, StmtStart, Tail};
+use crate::levels;
 use cc_arith::{IntOp, IntUnary};
 use cc_lex::{Keyword, Punct};
 use cc_tree::{AssignOp, BinaryOp, SpecWord, StepOp, UnaryOp};
@@ -139,22 +140,22 @@ pub fn stmt_punct(punct: Punct) -> StmtStart
 
 /// The level of a binary operator: the greater, the tighter (C17 6.5.5 to 6.5.14).
 pub fn binary_level(op: BinaryOp) -> u8
-    ensures value { result ≡ levels.binary_level op }
+    ensures value { result ≡ grammar_levels.binary_level op }
     ensures some { 0 < result }
     ensures small { result ≤ 13 }
 {
     match op {
-        BinaryOp::OrOr => 4,
-        BinaryOp::AndAnd => 5,
+        BinaryOp::OrOr => levels::LOGICAL_OR,
+        BinaryOp::AndAnd => levels::LOGICAL_AND,
         BinaryOp::Int(op) => match op {
-            IntOp::Or => 6,
-            IntOp::Xor => 7,
-            IntOp::And => 8,
-            IntOp::Eq | IntOp::Ne => 9,
-            IntOp::Lt | IntOp::Le | IntOp::Gt | IntOp::Ge => 10,
-            IntOp::Shl | IntOp::Shr => 11,
-            IntOp::Add | IntOp::Sub => 12,
-            IntOp::Mul | IntOp::Div | IntOp::Rem => 13,
+            IntOp::Or => levels::OR,
+            IntOp::Xor => levels::XOR,
+            IntOp::And => levels::AND,
+            IntOp::Eq | IntOp::Ne => levels::EQUALITY,
+            IntOp::Lt | IntOp::Le | IntOp::Gt | IntOp::Ge => levels::RELATION,
+            IntOp::Shl | IntOp::Shr => levels::SHIFT,
+            IntOp::Add | IntOp::Sub => levels::SUM,
+            IntOp::Mul | IntOp::Div | IntOp::Rem => levels::PRODUCT,
         },
     }
 }
@@ -165,10 +166,10 @@ pub fn binds(tail: Tail) -> u8
 {
     match tail {
         Tail::Binary(op) => binary_level(op),
-        Tail::Assign(_) => 2,
-        Tail::Question => 3,
-        Tail::Comma => 1,
-        Tail::Call | Tail::Index | Tail::Dot | Tail::Arrow | Tail::Step(_) => 16,
+        Tail::Assign(_) => levels::ASSIGNMENT,
+        Tail::Question => levels::CONDITIONAL,
+        Tail::Comma => levels::COMMA,
+        Tail::Call | Tail::Index | Tail::Dot | Tail::Arrow | Tail::Step(_) => levels::POSTFIX,
         Tail::End => 0,
     }
 }
@@ -179,9 +180,9 @@ pub fn left_level(tail: Tail) -> u8
 {
     match tail {
         Tail::Binary(op) => binary_level(op),
-        Tail::Assign(_) => 15,
-        Tail::Question => 4,
-        Tail::Comma => 1,
-        Tail::Call | Tail::Index | Tail::Dot | Tail::Arrow | Tail::Step(_) | Tail::End => 16,
+        Tail::Assign(_) => levels::UNARY,
+        Tail::Question => levels::LOGICAL_OR,
+        Tail::Comma => levels::COMMA,
+        Tail::Call | Tail::Index | Tail::Dot | Tail::Arrow | Tail::Step(_) | Tail::End => levels::POSTFIX,
     }
 }

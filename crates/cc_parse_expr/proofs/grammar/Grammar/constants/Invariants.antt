@@ -5,8 +5,8 @@ use Rattle.cc_parse_expr.specs.Parts as part
 use Rattle.cc_parse_expr.proofs.EnclosedLoops.{Enclosing}
 use Rattle.cc_parse_expr.proofs.grammar.Grammar.constants.Given as goal
 
-abbrev pub invariant-loop-turn : goal.invariant-loop-turn
-invariant-loop-turn g l =
+abbrev pub invariant-loop-round : goal.invariant-loop-round
+invariant-loop-round g l =
     let names = l.fn.self.names.now in
     let d = l.fn.self.depth in
-    Enclosing view_constant (spec.one_constant names (inner_at names d) d) (part.constants names (inner_at names d) d l.initial.tokens) l._turn-end l._turn l.found l.tokens
+    Enclosing view_constant (spec.one_constant names (inner_at names d) d) (part.constants names (inner_at names d) d l.initial.tokens) l._round-end l._round l.found l.tokens

@@ -7,14 +7,14 @@ use Rattle.cc_parse_expr.specs.Modes.{inner_at}
 use Rattle.cc_parse_expr.proofs.ListLoops.{unmapped, repeating, repeated_fails, repeated_ends, repeated_goes, repeated_over}
 use Rattle.cc_parse_expr.proofs.grammar.Grammar.literals.Goals as goal
 
-pub loop-turn-init : goal.loop-turn-init
-loop-turn-init g c =
+pub loop-round-init : goal.loop-round-init
+loop-round-init g c =
     let names = c.args.self.now.names.now in
     let d = c.args.self.now.depth in
     let inner = inner_at names d in
     let one = λ (ts : List Token). spec.literal_by names inner d (next_literal ts) ts in
     let more = λ (ts : List Token). spec.is_literal names inner d (next_literal ts) in
-    rw c.new-found.ensures (repeating (λ (x : List ℕ). x) more one c.args.tokens.now c.len-turn-end.result c.len-turn-end.ensures.value)
+    rw c.new-found.ensures (repeating (λ (x : List ℕ). x) more one c.args.tokens.now c.len-round-end.result c.len-round-end.ensures.value)
 
 pub returns-in_err-literal : goal.returns-in_err-literal
 returns-in_err-literal g c =
@@ -24,7 +24,7 @@ returns-in_err-literal g c =
     let one = λ (ts : List Token). spec.literal_by names inner d (next_literal ts) ts in
     let more = λ (ts : List Token). spec.is_literal names inner d (next_literal ts) in
     let p = err_from_is_err_and c.from_residual.result c.from_residual.ensures.1 in
-    rw (p.1, p.2) (λ s. repeated_fails (λ (x : List ℕ). x) more one (spec.literals names inner d c.args.tokens.now) c.len-turn-end.result c.loop-turn._turn c.loop-turn.found c.loop-turn.tokens c.loop-turn-test.true c.loop-turn.invariant c.literal.new.tokens (c.in_err-literal.ensures s))
+    rw (p.1, p.2) (λ s. repeated_fails (λ (x : List ℕ). x) more one (spec.literals names inner d c.args.tokens.now) c.len-round-end.result c.loop-round._round c.loop-round.found c.loop-round.tokens c.loop-round-test.true c.loop-round.invariant c.literal.new.tokens (c.in_err-literal.ensures s))
 
 pub returns-then-not-has_literal : goal.returns-then-not-has_literal
 returns-then-not-has_literal g c =
@@ -33,16 +33,16 @@ returns-then-not-has_literal g c =
     let inner = inner_at names d in
     let one = λ (ts : List Token). spec.literal_by names inner d (next_literal ts) ts in
     let more = λ (ts : List Token). spec.is_literal names inner d (next_literal ts) in
-    rw c.in_ok-push.ensures.ok (repeated_ends (λ (x : List ℕ). x) more one (spec.literals names inner d c.args.tokens.now) c.len-turn-end.result c.loop-turn._turn c.loop-turn.found c.loop-turn.tokens c.loop-turn-test.true c.loop-turn.invariant c.in_ok-literal.field-0 c.literal.new.tokens c.in_ok-literal.ensures c.if-not-has_literal.ensures ∙ unmapped (c.loop-turn.found ++ c.in_ok-literal.field-0 ∷ []) c.literal.new.tokens)
+    rw c.in_ok-push.ensures.ok (repeated_ends (λ (x : List ℕ). x) more one (spec.literals names inner d c.args.tokens.now) c.len-round-end.result c.loop-round._round c.loop-round.found c.loop-round.tokens c.loop-round-test.true c.loop-round.invariant c.in_ok-literal.field-0 c.literal.new.tokens c.in_ok-literal.ensures c.if-not-has_literal.ensures ∙ unmapped (c.loop-round.found ++ c.in_ok-literal.field-0 ∷ []) c.literal.new.tokens)
 
-pub loop-turn-preserved : goal.loop-turn-preserved
-loop-turn-preserved g c =
+pub loop-round-preserved : goal.loop-round-preserved
+loop-round-preserved g c =
     let names = c.args.self.now.names.now in
     let d = c.args.self.now.depth in
     let inner = inner_at names d in
     let one = λ (ts : List Token). spec.literal_by names inner d (next_literal ts) ts in
     let more = λ (ts : List Token). spec.is_literal names inner d (next_literal ts) in
-    rw c.in_ok-push.ensures.ok (repeated_goes (λ (x : List ℕ). x) more one (spec.literals names inner d c.args.tokens.now) c.len-turn-end.result c.loop-turn._turn c.loop-turn.found c.loop-turn.tokens c.loop-turn-test.true c.loop-turn.invariant c.in_ok-literal.field-0 c.literal.new.tokens c.in_ok-literal.ensures c.if-not-has_literal.ensures)
+    rw c.in_ok-push.ensures.ok (repeated_goes (λ (x : List ℕ). x) more one (spec.literals names inner d c.args.tokens.now) c.len-round-end.result c.loop-round._round c.loop-round.found c.loop-round.tokens c.loop-round-test.true c.loop-round.invariant c.in_ok-literal.field-0 c.literal.new.tokens c.in_ok-literal.ensures c.if-not-has_literal.ensures)
 
 pub returns : goal.returns
 returns g c =
@@ -51,4 +51,4 @@ returns g c =
     let inner = inner_at names d in
     let one = λ (ts : List Token). spec.literal_by names inner d (next_literal ts) ts in
     let more = λ (ts : List Token). spec.is_literal names inner d (next_literal ts) in
-    λ _. repeated_over (λ (x : List ℕ). x) more one (spec.literals names inner d c.args.tokens.now) c.len-turn-end.result c.loop-turn._turn c.loop-turn.found c.loop-turn.tokens c.loop-turn-test.false c.loop-turn.invariant
+    λ _. repeated_over (λ (x : List ℕ). x) more one (spec.literals names inner d c.args.tokens.now) c.len-round-end.result c.loop-round._round c.loop-round.found c.loop-round.tokens c.loop-round-test.false c.loop-round.invariant

@@ -4,7 +4,7 @@ use Rattle.cc_parse_expr.specs.Modes.{inner_at}
 use Rattle.cc_parse_expr.proofs.ListLoops.{Separating}
 use Rattle.cc_parse_expr.proofs.grammar.Grammar.member_declarators.Given as goal
 
-abbrev pub invariant-loop-turn : goal.invariant-loop-turn
-invariant-loop-turn g l =
+abbrev pub invariant-loop-round : goal.invariant-loop-round
+invariant-loop-round g l =
     let one = (inner_at l.fn.self.names.now l.fn.self.depth).declarator spec.with_name in
-    Separating view_declarator one (spec.separated one l.initial.tokens) l._turn-end l._turn l.found l.tokens
+    Separating view_declarator one (spec.separated one l.initial.tokens) l._round-end l._round l.found l.tokens
