@@ -4,7 +4,7 @@ ghost use Rattle.cc_parse_tokens.specs.Gives.{Gives};
 
 use cc_base::Text;
 use cc_parse_tokens::{Cursor, Fault, TypedefNames};
-use cc_tree_make::copied_text;
+use cc_tree_copies::copied_text;
 use std::alloc::Global;
 
 /// An identifier that is no typedef name (C17 6.4.2, 6.7.8).

@@ -16,7 +16,7 @@ use cc_base::{Spot, Text};
 use cc_lex::Punct;
 use cc_parse_tokens::{Cursor, Fault, SpecStart, TypedefNames, levels};
 use cc_tree::{Constant, Declarator, Expr, Member, Spec};
-use cc_tree_make::copied_text;
+use cc_tree_copies::copied_text;
 use sqlite_items::{Boxed, Items};
 use std::alloc::Global;
 

@@ -9,7 +9,7 @@ use crate::boxes::boxed;
 use crate::note::Counted;
 use cc_base::{Memory, Spot};
 use cc_tree::{Constant, Declarator, Expr, Member, Spec, TypeName};
-use cc_tree_make::{copied_strings, copied_tag, copied_text};
+use cc_tree_copies::{copied_strings, copied_tag, copied_text};
 use sqlite_items::{Boxed, Items};
 use std::alloc::Global;
 
