@@ -10,10 +10,12 @@ ghost use Rattle.cc_lex.specs.declared.token.TokenKind.TheVariants as kind;
 use crate::class::{SpecStart, Start, StmtStart, Tail};
 use crate::fault::Fault;
 use crate::names::TypedefNames;
-use crate::table::{spec_keyword, start_keyword, start_punct, stmt_keyword, stmt_punct, tail_punct};
+use crate::table::{
+    spec_keyword, start_keyword, start_punct, stmt_keyword, stmt_punct, tail_punct,
+};
 use cc_arith::IntKind;
-use cc_lex::{Keyword, Punct, Token, TokenKind};
 use cc_base::{Bytes, Spot, Text};
+use cc_lex::{Keyword, Punct, Token, TokenKind};
 use std::marker::Model;
 
 /// The tokens that are left. A contract sees them as a list.

@@ -183,6 +183,7 @@ pub fn left_level(tail: Tail) -> u8
         Tail::Assign(_) => levels::UNARY,
         Tail::Question => levels::LOGICAL_OR,
         Tail::Comma => levels::COMMA,
-        Tail::Call | Tail::Index | Tail::Dot | Tail::Arrow | Tail::Step(_) | Tail::End => levels::POSTFIX,
+        Tail::Call | Tail::Index | Tail::Dot | Tail::Arrow | Tail::Step(_) | Tail::End =>
+            levels::POSTFIX,
     }
 }
