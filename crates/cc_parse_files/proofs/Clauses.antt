@@ -19,9 +19,9 @@ behind : {A B : Type 0} (o : Outcome (Unit {0})) (x : A) (k : A → Parser B) �
 behind (Ok y) x k = refl
 behind (Err r) x k = refl
 
-sign_behind : {A B : Type 0} (s : Punct) (o : Outcome A) (k : A → Parser B) → and_then (and_then o (λ x. take s >> pure x)) k ≡ and_then o (λ x. take s >> k x)
-sign_behind s (Ok y) k = behind (take s y.1) y.0 k
-sign_behind s (Err r) k = refl
+punct_behind : {A B : Type 0} (s : Punct) (o : Outcome A) (k : A → Parser B) → and_then (and_then o (λ x. take s >> pure x)) k ≡ and_then o (λ x. take s >> k x)
+punct_behind s (Ok y) k = behind (take s y.1) y.0 k
+punct_behind s (Err r) k = refl
 
 module _ (d : ℕ) (names : Names) (n : Spot) where
   clause : Punct → Parser (Option (ExprTree Spot))
@@ -29,7 +29,7 @@ module _ (d : ℕ) (names : Names) (n : Spot) where
 
   second : (start : StartTree Spot) (test : Option (ExprTree Spot)) (o : Outcome (Unit {0}))
       → and_then (and_then o (λ _. clause_until (stmt d) d names (next_is the_punct.RightParen))) (λ each. take the_punct.RightParen >> for_body d names n start test each) ≡ and_then o (λ _. for_each d names n start test)
-  second start test (Ok y) = sym (sign_behind the_punct.RightParen (clause_until (stmt d) d names (next_is the_punct.RightParen) y.1) (for_body d names n start test))
+  second start test (Ok y) = sym (punct_behind the_punct.RightParen (clause_until (stmt d) d names (next_is the_punct.RightParen) y.1) (for_body d names n start test))
   second start test (Err r) = refl
 
 -- `for` behind its first clause
@@ -40,7 +40,7 @@ behind_is d names n start ts =
     (λ test. take the_punct.Semicolon >> clause_until (stmt d) d after (next_is the_punct.RightParen) >>= (λ each. take the_punct.RightParen >> for_body d after n start test each))
     (λ test. take the_punct.Semicolon >> for_each d after n start test)
     (λ test us. second d after n start test (take the_punct.Semicolon us))
-    ∙ sym (sign_behind the_punct.Semicolon (clause_until (stmt d) d after (next_is the_punct.Semicolon) ts) (for_each d after n start))
+    ∙ sym (punct_behind the_punct.Semicolon (clause_until (stmt d) d after (next_is the_punct.Semicolon) ts) (for_each d after n start))
 
 pub for_is : (d : ℕ) (names : Names) (n : Spot) (ts : List Token) → (take the_punct.LeftParen >> start_clause (stmt d) d names >>= for_behind (stmt d) d names n) (skip ts) ≡ for_at d names n ts
 for_is d names n ts =
@@ -48,4 +48,9 @@ for_is d names n ts =
 
 pub return_is : (d : ℕ) (names : Names) (n : Spot) (ts : List Token)
     → (clause_until (stmt d) d names (next_is the_punct.Semicolon) >>= (λ e. take the_punct.Semicolon >> pure (return n e))) (skip ts) ≡ return_at d names n ts
-return_is d names n ts = sym (sign_behind the_punct.Semicolon (clause_until (stmt d) d names (next_is the_punct.Semicolon) (skip ts)) (λ e. pure (return n e)))
+return_is d names n ts = sym (punct_behind the_punct.Semicolon (clause_until (stmt d) d names (next_is the_punct.Semicolon) (skip ts)) (λ e. pure (return n e)))
+
+-- `for` up to its first clause, step by step
+pub for_from : (d : ℕ) (names after : Names) (n : Spot) (ts us vs ws : List Token) (start : StartTree Spot) → us ≡ skip ts → take the_punct.LeftParen us ≡ Ok (tt, vs)
+    → start_clause (stmt d) d names vs ≡ Ok (start, ws) → after ≡ after_start start names → for_at d names n ts ≡ for_test d after n start ws
+for_from d names after n ts us vs ws start is paren first behind = rw (sym is, paren, first, behind) refl

@@ -20,8 +20,8 @@ module _ (d : ℕ) (names : Names) (n : Spot) (ss : SpecTrees Spot) (e : DeclTre
   pub inits_fail : (r : List Token) → inits d typedef names e ts ≡ Err r → outer_at d names n ss e ts ≡ Err r
   inits_fail r f = inits_are (Err r) f
 
-  pub sign_fails : (x : List (InitTree Spot)) (us r : List Token) → inits d typedef names e ts ≡ Ok (x, us) → take the_punct.Semicolon us ≡ Err r → outer_at d names n ss e ts ≡ Err r
-  sign_fails x us r f g = inits_are (Ok (x, us)) f ∙ ap (λ o. and_then o (λ _. pure (outer_declaration (declaration n ss x)))) g
+  pub punct_fails : (x : List (InitTree Spot)) (us r : List Token) → inits d typedef names e ts ≡ Ok (x, us) → take the_punct.Semicolon us ≡ Err r → outer_at d names n ss e ts ≡ Err r
+  punct_fails x us r f g = inits_are (Ok (x, us)) f ∙ ap (λ o. and_then o (λ _. pure (outer_declaration (declaration n ss x)))) g
 
   pub outer_read : (x : List (InitTree Spot)) (us ws : List Token) → inits d typedef names e ts ≡ Ok (x, us) → take the_punct.Semicolon us ≡ Ok (tt, ws)
       → outer_at d names n ss e ts ≡ Ok (outer_declaration (declaration n ss x), ws)

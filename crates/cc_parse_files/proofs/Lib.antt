@@ -1,7 +1,7 @@
 pub mod Clauses
 pub mod Externals
-pub mod ExternalTurns
+pub mod ExternalRounds
 pub mod FirstTokens
-pub mod InitTurns
-pub mod ItemTurns
+pub mod InitRounds
+pub mod ItemRounds
 pub mod Opened

@@ -1,4 +1,4 @@
 pub mod Nests
 pub mod Parts
-pub mod Turns
+pub mod Rounds
 pub mod Views

@@ -5,15 +5,15 @@ ghost use Rattle.cc_grammar.specs.Names as typedefs;
 ghost use Rattle.cc_grammar.specs.Reading as spec;
 ghost use Rattle.cc_tree.specs.Views.{view_stmt, view_block, view_item, items_of};
 ghost use Rattle.cc_parse_tokens.specs.Gives.{Gives};
-ghost use Rattle.cc_parse_files.specs.Nests.{NestsStmt};
+ghost use Rattle.cc_parse_files.specs.Nests.{Nests};
 
 use crate::declaration::declaration;
 use crate::statement::Statements;
+use cc_base::Spot;
 use cc_lex::Punct;
 use cc_parse_expr::expr;
-use cc_parse_tokens::{Cursor, Fault, StmtStart, TypedefNames};
+use cc_parse_tokens::{Cursor, Fault, StmtStart, TypedefNames, levels};
 use cc_tree::{Block, Item, Stmt};
-use cc_base::Spot;
 use sqlite_items::Items;
 use std::alloc::Global;
 
@@ -28,7 +28,7 @@ impl<
         names: &mut TypedefNames,
         spot: Spot,
     ) -> Result<Stmt<Spot>, Fault>
-        requires nests { NestsStmt self.now.depth (F.pre self.now.read) (F.post self.now.read) }
+        requires nests { Nests self.now F.pre F.post G.pre G.post }
         ensures gives { Gives view_stmt (parts.block_at self.now.depth names.old spot tokens.old) result tokens.new }
         ensures after { IfOk result (λ s. names.new ≡ typedefs.after_stmt (view_stmt s) names.old) }
     {
@@ -44,7 +44,7 @@ impl<
         names: &mut TypedefNames,
         spot: Spot,
     ) -> Result<Block<Spot>, Fault>
-        requires nests { NestsStmt self.now.depth (F.pre self.now.read) (F.post self.now.read) }
+        requires nests { Nests self.now F.pre F.post G.pre G.post }
         ensures gives { Gives view_block (parts.block_behind self.now.depth names.old spot tokens.old) result tokens.new }
         ensures after { IfOk result (λ b. names.new ≡ typedefs.after_block (view_block b) names.old) }
     {
@@ -58,12 +58,12 @@ impl<
         tokens: &mut Cursor<'_>,
         names: &mut TypedefNames,
     ) -> Result<Items<Item<Spot>>, Fault>
-        requires nests { NestsStmt self.now.depth (F.pre self.now.read) (F.post self.now.read) }
+        requires nests { Nests self.now F.pre F.post G.pre G.post }
         ensures gives { Gives (map view_item) (parts.items_in self.now.depth names.old tokens.old) result tokens.new }
         ensures after { IfOk result (λ is. names.new ≡ typedefs.after_items (items_of is) names.old) }
     {
         let mut found = Items::new(self.alloc);
-        for _turn in 0..tokens.len() + 1 {
+        for _round in 0..tokens.len() + 1 {
             if tokens.next_is(Punct::RightBrace) {
                 tokens.skip();
                 return Ok(found);
@@ -80,7 +80,7 @@ impl<
         tokens: &mut Cursor<'_>,
         names: &mut TypedefNames,
     ) -> Result<Item<Spot>, Fault>
-        requires nests { NestsStmt self.now.depth (F.pre self.now.read) (F.post self.now.read) }
+        requires nests { Nests self.now F.pre F.post G.pre G.post }
         ensures gives { Gives view_item (spec.item (spec.stmt self.now.depth) self.now.depth names.old tokens.old) result tokens.new }
         ensures after { IfOk result (λ i. names.new ≡ typedefs.after_item (view_item i) names.old) }
     {
@@ -114,7 +114,7 @@ impl<
         tokens: &mut Cursor<'_>,
         names: &mut TypedefNames,
     ) -> Result<Item<Spot>, Fault>
-        requires nests { NestsStmt self.now.depth (F.pre self.now.read) (F.post self.now.read) }
+        requires nests { Nests self.now F.pre F.post G.pre G.post }
         ensures gives { Gives view_item (parts.labelled_at self.now.depth names.old tokens.old) result tokens.new }
         ensures after { IfOk result (λ i. names.new ≡ typedefs.after_item (view_item i) names.old) }
     {
@@ -141,9 +141,9 @@ impl<
             return Err(Fault::Refused);
         };
         tokens.skip();
-        let value = expr(self.alloc, tokens, names, inside, 3)?;
+        let value = expr(self.alloc, tokens, names, inside, levels::CONDITIONAL)?;
         tokens.take(Punct::Colon)?;
-        Ok(Item::Case(spot, value))
+        Ok(Item::Case(spot, value.into_inner()))
     }
 
     /// `default` with its colon, which counts.
@@ -171,7 +171,7 @@ impl<
         tokens: &mut Cursor<'_>,
         names: &mut TypedefNames,
     ) -> Result<Item<Spot>, Fault>
-        requires nests { NestsStmt self.now.depth (F.pre self.now.read) (F.post self.now.read) }
+        requires nests { Nests self.now F.pre F.post G.pre G.post }
         ensures gives { Gives view_item (parts.does_at self.now.depth names.old tokens.old) result tokens.new }
         ensures after { IfOk result (λ i. names.new ≡ typedefs.after_item (view_item i) names.old) }
     {

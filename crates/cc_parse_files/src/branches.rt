@@ -5,14 +5,14 @@ ghost use Rattle.cc_grammar.specs.Names as typedefs;
 ghost use Rattle.cc_grammar.specs.Reading as spec;
 ghost use Rattle.cc_tree.specs.Views.{view, view_stmt, view_block};
 ghost use Rattle.cc_parse_tokens.specs.Gives.{Gives};
-ghost use Rattle.cc_parse_files.specs.Nests.{NestsStmt, NestsBlock};
+ghost use Rattle.cc_parse_files.specs.Nests.{Nests};
 ghost use Rattle.cc_grammar.specs.Names.{Names};
 
 use crate::statement::Statements;
+use cc_base::Spot;
 use cc_lex::{Keyword, Punct};
 use cc_parse_tokens::{Cursor, Fault, TypedefNames};
 use cc_tree::{Block, Expr, Stmt};
-use cc_base::Spot;
 use sqlite_items::Boxed;
 use std::alloc::Global;
 
@@ -26,7 +26,7 @@ impl<
         tokens: &mut Cursor<'_>,
         names: &mut TypedefNames,
     ) -> Result<Boxed<Stmt<Spot>>, Fault>
-        requires nests { NestsStmt self.now.depth (F.pre self.now.read) (F.post self.now.read) }
+        requires nests { Nests self.now F.pre F.post G.pre G.post }
         ensures gives { Gives view_stmt (spec.stmt self.now.depth names.old tokens.old) result tokens.new }
         ensures after { IfOk result (λ s. names.new ≡ typedefs.after_stmt (view_stmt s) names.old) }
     {
@@ -41,7 +41,7 @@ impl<
         names: &mut TypedefNames,
         spot: Spot,
     ) -> Result<Stmt<Spot>, Fault>
-        requires nests { NestsStmt self.now.depth (F.pre self.now.read) (F.post self.now.read) }
+        requires nests { Nests self.now F.pre F.post G.pre G.post }
         ensures gives { Gives view_stmt (parts.if_at self.now.depth names.old spot tokens.old) result tokens.new }
         ensures after { IfOk result (λ s. names.new ≡ typedefs.after_stmt (view_stmt s) names.old) }
     {
@@ -56,9 +56,9 @@ impl<
         tokens: &mut Cursor<'_>,
         names: &mut TypedefNames,
         spot: Spot,
-        test: Expr<Spot>,
+        test: Boxed<Expr<Spot>>,
     ) -> Result<Stmt<Spot>, Fault>
-        requires nests { NestsStmt self.now.depth (F.pre self.now.read) (F.post self.now.read) }
+        requires nests { Nests self.now F.pre F.post G.pre G.post }
         ensures gives { Gives view_stmt (parts.branches self.now.depth names.old spot (view test) tokens.old) result tokens.new }
         ensures after { IfOk result (λ s. names.new ≡ typedefs.after_stmt (view_stmt s) names.old) }
     {
@@ -67,7 +67,7 @@ impl<
             tokens.skip();
             self.with_else(tokens, names, spot, test, yes)
         } else {
-            Ok(Stmt::If(spot, test, yes))
+            Ok(Stmt::If(spot, test.into_inner(), yes))
         }
     }
 
@@ -77,15 +77,15 @@ impl<
         tokens: &mut Cursor<'_>,
         names: &mut TypedefNames,
         spot: Spot,
-        test: Expr<Spot>,
+        test: Boxed<Expr<Spot>>,
         yes: Boxed<Stmt<Spot>>,
     ) -> Result<Stmt<Spot>, Fault>
-        requires nests { NestsStmt self.now.depth (F.pre self.now.read) (F.post self.now.read) }
+        requires nests { Nests self.now F.pre F.post G.pre G.post }
         ensures gives { Gives view_stmt (parts.else_at self.now.depth names.old spot (view test) (view_stmt yes) tokens.old) result tokens.new }
         ensures after { IfOk result (λ s. (before : Names) → names.old ≡ typedefs.after_stmt (view_stmt yes) before → names.new ≡ typedefs.after_stmt (view_stmt s) before) }
     {
         let no = self.boxed(tokens, names)?;
-        Ok(Stmt::IfElse(spot, test, yes, no))
+        Ok(Stmt::IfElse(spot, test.into_inner(), yes, no))
     }
 
     /// `switch`.
@@ -95,14 +95,14 @@ impl<
         names: &mut TypedefNames,
         spot: Spot,
     ) -> Result<Stmt<Spot>, Fault>
-        requires nests_block { NestsBlock self.now.depth (G.pre self.now.read_block) (G.post self.now.read_block) }
+        requires nests { Nests self.now F.pre F.post G.pre G.post }
         ensures gives { Gives view_stmt (parts.switch_at self.now.depth names.old spot tokens.old) result tokens.new }
         ensures after { IfOk result (λ s. names.new ≡ typedefs.after_stmt (view_stmt s) names.old) }
     {
         tokens.skip();
         let test = self.condition(tokens, names)?;
         let body = self.body(tokens, names)?;
-        Ok(Stmt::Switch(spot, test, body))
+        Ok(Stmt::Switch(spot, test.into_inner(), body))
     }
 
     /// A block inside.
@@ -111,7 +111,7 @@ impl<
         tokens: &mut Cursor<'_>,
         names: &mut TypedefNames,
     ) -> Result<Block<Spot>, Fault>
-        requires nests_block { NestsBlock self.now.depth (G.pre self.now.read_block) (G.post self.now.read_block) }
+        requires nests { Nests self.now F.pre F.post G.pre G.post }
         ensures gives { Gives view_block (spec.body (spec.stmt self.now.depth) self.now.depth names.old tokens.old) result tokens.new }
         ensures after { IfOk result (λ b. names.new ≡ typedefs.after_block (view_block b) names.old) }
     {

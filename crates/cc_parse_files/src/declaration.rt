@@ -7,12 +7,12 @@ ghost use Rattle.cc_parse_tokens.specs.Gives.{Gives};
 ghost use Rattle.cc_parse_files.specs.Parts as parts;
 
 use crate::initialiser::value;
+use cc_base::{Memory, Spot, Text};
 use cc_lex::Punct;
 use cc_parse_expr::{Mode, declarator, specs};
 use cc_parse_tokens::{Cursor, Fault, TypedefNames};
 use cc_tree::{Declaration, Declarator, Init, Spec, SpecWord, Value};
-use cc_base::{Memory, Spot, Text};
-use sqlite_items::Items;
+use sqlite_items::{Boxed, Items};
 use std::alloc::Global;
 
 /// `=` and an initialiser, or nothing.
@@ -84,18 +84,18 @@ pub fn inits(
     names: &mut TypedefNames,
     depth: u32,
     typedef: bool,
-    first: Declarator<Spot>,
+    first: Boxed<Declarator<Spot>>,
 ) -> Result<Items<Init<Spot>>, Fault>
     ensures gives { Gives (map view_init) (spec.inits depth typedef names.old (view_declarator first) tokens.old) result tokens.new }
     ensures after { IfOk result (λ is. names.new ≡ typedefs.after_inits typedef (map view_init is) names.old) }
 {
     let mut found = Items::new(alloc);
     let mut next = first;
-    for _turn in 0..tokens.len() + 1 {
-        declare(alloc, names, typedef, &next)?;
+    for _round in 0..tokens.len() + 1 {
+        declare(alloc, names, typedef, next.get())?;
         let value = given(alloc, tokens, names, depth)?;
         found.push(Init {
-            declarator: next,
+            declarator: next.into_inner(),
             value,
         })?;
         if !tokens.next_is(Punct::Comma) {

@@ -8,12 +8,12 @@ ghost use Rattle.cc_parse_files.specs.Parts as parts;
 
 use crate::declaration::{has_typedef, inits};
 use crate::statement::body;
+use cc_base::Spot;
 use cc_lex::Punct;
 use cc_parse_expr::{Mode, declarator, specs, spot_or};
 use cc_parse_tokens::{Cursor, Fault, TypedefNames};
 use cc_tree::{Declaration, Declarator, External, FileTree, Function, Spec};
-use cc_base::Spot;
-use sqlite_items::Items;
+use sqlite_items::{Boxed, Items};
 use std::alloc::Global;
 
 /// A function behind its declarator: the body.
@@ -24,17 +24,17 @@ fn definition(
     depth: u32,
     spot: Spot,
     specs: Items<Spec<Spot>>,
-    declarator: Declarator<Spot>,
+    declarator: Boxed<Declarator<Spot>>,
 ) -> Result<External<Spot>, Fault>
     ensures gives { Gives view_external (parts.definition_at depth names.old spot (specs_of specs) (view_declarator declarator) tokens.old) result tokens.new }
     ensures after { IfOk result (λ x. names.new ≡ typedefs.after_external (view_external x) names.old) }
 {
-    let note = spot_or(&declarator, spot);
+    let note = spot_or(declarator.get(), spot);
     let body = body(alloc, tokens, names, depth)?;
     Ok(External::Function(Function {
         note,
         specs,
-        declarator,
+        declarator: declarator.into_inner(),
         body,
     }))
 }
@@ -47,7 +47,7 @@ fn outer(
     depth: u32,
     spot: Spot,
     specs: Items<Spec<Spot>>,
-    first: Declarator<Spot>,
+    first: Boxed<Declarator<Spot>>,
 ) -> Result<External<Spot>, Fault>
     ensures gives { Gives view_external (parts.outer_at depth names.old spot (specs_of specs) (view_declarator first) tokens.old) result tokens.new }
     ensures after { IfOk result (λ x. names.new ≡ typedefs.after_external (view_external x) names.old) }
@@ -70,7 +70,7 @@ fn external_behind(
     depth: u32,
     spot: Spot,
     specs: Items<Spec<Spot>>,
-    declarator: Declarator<Spot>,
+    declarator: Boxed<Declarator<Spot>>,
 ) -> Result<External<Spot>, Fault>
     ensures gives { Gives view_external (spec.external_behind depth names.old spot (specs_of specs) (view_declarator declarator) tokens.old) result tokens.new }
     ensures after { IfOk result (λ x. names.new ≡ typedefs.after_external (view_external x) names.old) }
@@ -138,7 +138,7 @@ fn externals(
     ensures { Gives (map view_external) (spec.externals_by depth (suc (length tokens.old)) names.old tokens.old) result tokens.new }
 {
     let mut found = Items::new(alloc);
-    for _turn in 0..tokens.len() + 1 {
+    for _round in 0..tokens.len() + 1 {
         if ended(tokens) {
             return Ok(found);
         }
@@ -151,7 +151,7 @@ fn externals(
 /// The file that the tokens are, no deeper than `depth` (C17 6.9).
 ///
 /// `Refused` tells that they are none so shallow: the cursor stands where reading stopped.
-#[tactic(auto, using(crate::proofs::ExternalTurns::reading_is))]
+#[tactic(auto, using(crate::proofs::ExternalRounds::reading_is))]
 pub fn reading(alloc: Global, tokens: &mut Cursor<'_>, depth: u32) -> Result<FileTree<Spot>, Fault>
     ensures { Gives view_file (spec.reading depth tokens.old) result tokens.new }
 {

@@ -6,11 +6,11 @@ ghost use Rattle.cc_parse_tokens.specs.Gives.{Gives};
 ghost use Rattle.cc_parse_files.specs.Views.{braced};
 
 use crate::begin::begins_expression;
+use cc_base::Spot;
 use cc_lex::Punct;
 use cc_parse_expr::expr;
-use cc_parse_tokens::{Cursor, Fault, TypedefNames};
+use cc_parse_tokens::{Cursor, Fault, TypedefNames, levels};
 use cc_tree::Value;
-use cc_base::Spot;
 use sqlite_items::Items;
 use std::alloc::Global;
 
@@ -44,7 +44,8 @@ pub fn value(
         let found = values(alloc, tokens, names, inside)?;
         return Ok(Value::List(spot, found.values, found.trailing));
     }
-    Ok(Value::Expr(expr(alloc, tokens, names, depth, 2)?))
+    let value = expr(alloc, tokens, names, depth, levels::ASSIGNMENT)?;
+    Ok(Value::Expr(value.into_inner()))
 }
 
 /// Values up to the closing brace, one at least.
@@ -58,7 +59,7 @@ fn values(
     ensures { Gives braced (spec.enclosed_by (spec.value names.now depth) (length tokens.old) tokens.old) result tokens.new }
 {
     let mut values = Items::new(alloc);
-    for _turn in 0..tokens.len() {
+    for _round in 0..tokens.len() {
         values.push(value(alloc, tokens, names, depth)?)?;
         if !tokens.next_is(Punct::Comma) {
             tokens.take(Punct::RightBrace)?;

@@ -5,16 +5,16 @@ ghost use Rattle.cc_grammar.specs.Names as typedefs;
 ghost use Rattle.cc_grammar.specs.Reading as spec;
 ghost use Rattle.cc_tree.specs.Views.{view, view_stmt, view_start};
 ghost use Rattle.cc_parse_tokens.specs.Gives.{Gives};
-ghost use Rattle.cc_parse_files.specs.Nests.{NestsStmt};
+ghost use Rattle.cc_parse_files.specs.Nests.{Nests};
 ghost use Rattle.cc_grammar.specs.Names.{Names};
 
 use crate::declaration::declaration;
-use crate::statement::Statements;
+use crate::statement::{Statements, unboxed};
+use cc_base::Spot;
 use cc_lex::{Keyword, Punct};
 use cc_parse_expr::expr;
-use cc_parse_tokens::{Cursor, Fault, TypedefNames};
+use cc_parse_tokens::{Cursor, Fault, TypedefNames, levels};
 use cc_tree::{Block, Expr, ForStart, Stmt};
-use cc_base::Spot;
 use sqlite_items::Boxed;
 use std::alloc::Global;
 
@@ -29,14 +29,14 @@ impl<
         names: &mut TypedefNames,
         spot: Spot,
     ) -> Result<Stmt<Spot>, Fault>
-        requires nests { NestsStmt self.now.depth (F.pre self.now.read) (F.post self.now.read) }
+        requires nests { Nests self.now F.pre F.post G.pre G.post }
         ensures gives { Gives view_stmt (parts.while_at self.now.depth names.old spot tokens.old) result tokens.new }
         ensures after { IfOk result (λ s. names.new ≡ typedefs.after_stmt (view_stmt s) names.old) }
     {
         tokens.skip();
         let test = self.condition(tokens, names)?;
         let body = self.boxed(tokens, names)?;
-        Ok(Stmt::While(spot, test, body))
+        Ok(Stmt::While(spot, test.into_inner(), body))
     }
 
     /// `do`.
@@ -46,7 +46,7 @@ impl<
         names: &mut TypedefNames,
         spot: Spot,
     ) -> Result<Stmt<Spot>, Fault>
-        requires nests { NestsStmt self.now.depth (F.pre self.now.read) (F.post self.now.read) }
+        requires nests { Nests self.now F.pre F.post G.pre G.post }
         ensures gives { Gives view_stmt (parts.do_at self.now.depth names.old spot tokens.old) result tokens.new }
         ensures after { IfOk result (λ s. names.new ≡ typedefs.after_stmt (view_stmt s) names.old) }
     {
@@ -69,7 +69,7 @@ impl<
         tokens.take_keyword(Keyword::While)?;
         let test = self.condition(tokens, names)?;
         tokens.take(Punct::Semicolon)?;
-        Ok(Stmt::Do(spot, body, test))
+        Ok(Stmt::Do(spot, body, test.into_inner()))
     }
 
     /// `for`.
@@ -79,7 +79,7 @@ impl<
         names: &mut TypedefNames,
         spot: Spot,
     ) -> Result<Stmt<Spot>, Fault>
-        requires nests { NestsStmt self.now.depth (F.pre self.now.read) (F.post self.now.read) }
+        requires nests { Nests self.now F.pre F.post G.pre G.post }
         ensures gives { Gives view_stmt (parts.for_at self.now.depth names.old spot tokens.old) result tokens.new }
         ensures after { IfOk result (λ s. names.new ≡ typedefs.after_stmt (view_stmt s) names.old) }
     {
@@ -94,7 +94,7 @@ impl<
         &self,
         tokens: &mut Cursor<'_>,
         names: &mut TypedefNames,
-    ) -> Result<ForStart<Spot>, Fault>
+    ) -> Result<Boxed<ForStart<Spot>>, Fault>
         ensures gives { Gives view_start (spec.start_clause (spec.stmt self.now.depth) self.now.depth names.old tokens.old) result tokens.new }
         ensures after { IfOk result (λ s. names.new ≡ typedefs.after_start (view_start s) names.old) }
     {
@@ -103,11 +103,11 @@ impl<
         }
         if tokens.next_is(Punct::Semicolon) {
             tokens.skip();
-            return Ok(ForStart::Empty);
+            return Ok(Boxed::new(self.alloc, ForStart::Empty)?);
         }
-        let first = expr(self.alloc, tokens, names, self.depth, 1)?;
+        let first = expr(self.alloc, tokens, names, self.depth, levels::COMMA)?;
         tokens.take(Punct::Semicolon)?;
-        Ok(ForStart::Expr(first))
+        Ok(Boxed::new(self.alloc, ForStart::Expr(first.into_inner()))?)
     }
 
     /// A declaration in a `for`, which counts.
@@ -115,7 +115,7 @@ impl<
         &self,
         tokens: &mut Cursor<'_>,
         names: &mut TypedefNames,
-    ) -> Result<ForStart<Spot>, Fault>
+    ) -> Result<Boxed<ForStart<Spot>>, Fault>
         ensures gives { Gives view_start (parts.start_declares_at self.now.depth names.old tokens.old) result tokens.new }
         ensures after { IfOk result (λ s. names.new ≡ typedefs.after_start (view_start s) names.old) }
     {
@@ -124,7 +124,7 @@ impl<
             return Err(Fault::Refused);
         };
         let found = declaration(self.alloc, tokens, names, inside)?;
-        Ok(ForStart::Decl(found))
+        Ok(Boxed::new(self.alloc, ForStart::Decl(found))?)
     }
 
     /// `for` behind its first clause.
@@ -133,9 +133,9 @@ impl<
         tokens: &mut Cursor<'_>,
         names: &mut TypedefNames,
         spot: Spot,
-        start: ForStart<Spot>,
+        start: Boxed<ForStart<Spot>>,
     ) -> Result<Stmt<Spot>, Fault>
-        requires nests { NestsStmt self.now.depth (F.pre self.now.read) (F.post self.now.read) }
+        requires nests { Nests self.now F.pre F.post G.pre G.post }
         ensures gives { Gives view_stmt (parts.for_test self.now.depth names.old spot (view_start start) tokens.old) result tokens.new }
         ensures after { IfOk result (λ s. (before : Names) → names.old ≡ typedefs.after_start (view_start start) before → names.new ≡ typedefs.after_stmt (view_stmt s) before) }
     {
@@ -149,10 +149,10 @@ impl<
         tokens: &mut Cursor<'_>,
         names: &mut TypedefNames,
         spot: Spot,
-        start: ForStart<Spot>,
-        test: Option<Expr<Spot>>,
+        start: Boxed<ForStart<Spot>>,
+        test: Option<Boxed<Expr<Spot>>>,
     ) -> Result<Stmt<Spot>, Fault>
-        requires nests { NestsStmt self.now.depth (F.pre self.now.read) (F.post self.now.read) }
+        requires nests { Nests self.now F.pre F.post G.pre G.post }
         ensures gives { Gives view_stmt (parts.for_each self.now.depth names.old spot (view_start start) (option_map view test) tokens.old) result tokens.new }
         ensures after { IfOk result (λ s. (before : Names) → names.old ≡ typedefs.after_start (view_start start) before → names.new ≡ typedefs.after_stmt (view_stmt s) before) }
     {
@@ -166,15 +166,15 @@ impl<
         tokens: &mut Cursor<'_>,
         names: &mut TypedefNames,
         spot: Spot,
-        start: ForStart<Spot>,
-        test: Option<Expr<Spot>>,
-        each: Option<Expr<Spot>>,
+        start: Boxed<ForStart<Spot>>,
+        test: Option<Boxed<Expr<Spot>>>,
+        each: Option<Boxed<Expr<Spot>>>,
     ) -> Result<Stmt<Spot>, Fault>
-        requires nests { NestsStmt self.now.depth (F.pre self.now.read) (F.post self.now.read) }
+        requires nests { Nests self.now F.pre F.post G.pre G.post }
         ensures gives { Gives view_stmt (parts.for_body self.now.depth names.old spot (view_start start) (option_map view test) (option_map view each) tokens.old) result tokens.new }
         ensures after { IfOk result (λ s. (before : Names) → names.old ≡ typedefs.after_start (view_start start) before → names.new ≡ typedefs.after_stmt (view_stmt s) before) }
     {
         let body = self.boxed(tokens, names)?;
-        Ok(Stmt::For(spot, start, test, each, body))
+        Ok(Stmt::For(spot, start.into_inner(), unboxed(test), unboxed(each), body))
     }
 }

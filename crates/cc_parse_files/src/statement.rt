@@ -5,15 +5,16 @@ ghost use Rattle.cc_grammar.specs.Names as typedefs;
 ghost use Rattle.cc_grammar.specs.Reading as spec;
 ghost use Rattle.cc_tree.specs.Views.{view, view_stmt, view_block};
 ghost use Rattle.cc_parse_tokens.specs.Gives.{Gives};
-ghost use Rattle.cc_parse_files.specs.Nests.{NestsStmt, NestsBlock};
+ghost use Rattle.cc_parse_files.specs.Nests.{Nests};
 ghost use Rattle.cc_grammar.specs.Classes as grammar;
 
 use crate::begin::begins_statement;
+use cc_base::Spot;
 use cc_lex::Punct;
 use cc_parse_expr::expr;
-use cc_parse_tokens::{Cursor, Fault, StmtStart, TypedefNames};
+use cc_parse_tokens::{Cursor, Fault, StmtStart, TypedefNames, levels};
 use cc_tree::{Block, Expr, Stmt};
-use cc_base::Spot;
+use sqlite_items::Boxed;
 use std::alloc::Global;
 
 /// The rules of statements, where statements and blocks inside are no deeper than `depth`, over their readers.
@@ -35,7 +36,7 @@ impl<
         tokens: &mut Cursor<'_>,
         names: &mut TypedefNames,
     ) -> Result<Stmt<Spot>, Fault>
-        requires nests { NestsStmt self.now.depth (F.pre self.now.read) (F.post self.now.read) }
+        requires nests { Nests self.now F.pre F.post G.pre G.post }
         ensures gives { Gives view_stmt (spec.stmt self.now.depth names.old tokens.old) result tokens.new }
         ensures after { IfOk result (λ s. names.new ≡ typedefs.after_stmt (view_stmt s) names.old) }
     {
@@ -47,11 +48,11 @@ impl<
         &self,
         tokens: &mut Cursor<'_>,
         names: &TypedefNames,
-    ) -> Result<Expr<Spot>, Fault>
+    ) -> Result<Boxed<Expr<Spot>>, Fault>
         ensures { Gives view (spec.condition (spec.stmt self.now.depth) self.now.depth names.now tokens.old) result tokens.new }
     {
         tokens.take(Punct::LeftParen)?;
-        let test = expr(self.alloc, tokens, names, self.depth, 1)?;
+        let test = expr(self.alloc, tokens, names, self.depth, levels::COMMA)?;
         tokens.take(Punct::RightParen)?;
         Ok(test)
     }
@@ -62,13 +63,13 @@ impl<
         tokens: &mut Cursor<'_>,
         names: &TypedefNames,
         end: Punct,
-    ) -> Result<Option<Expr<Spot>>, Fault>
+    ) -> Result<Option<Boxed<Expr<Spot>>>, Fault>
         ensures { Gives (option_map view) (spec.clause_until (spec.stmt self.now.depth) self.now.depth names.now (grammar.next_is end) tokens.old) result tokens.new }
     {
         if tokens.next_is(end) {
             return Ok(None);
         }
-        let found = expr(self.alloc, tokens, names, self.depth, 1)?;
+        let found = expr(self.alloc, tokens, names, self.depth, levels::COMMA)?;
         Ok(Some(found))
     }
 
@@ -78,7 +79,7 @@ impl<
         tokens: &mut Cursor<'_>,
         names: &TypedefNames,
         end: Punct,
-    ) -> Result<Option<Expr<Spot>>, Fault>
+    ) -> Result<Option<Boxed<Expr<Spot>>>, Fault>
         ensures { Gives (option_map view) (parts.ended_clause self.now.depth names.now end tokens.old) result tokens.new }
     {
         let found = self.clause(tokens, names, end)?;
@@ -93,8 +94,7 @@ impl<
         tokens: &mut Cursor<'_>,
         names: &mut TypedefNames,
     ) -> Result<Stmt<Spot>, Fault>
-        requires nests { NestsStmt self.now.depth (F.pre self.now.read) (F.post self.now.read) }
-        requires nests_block { NestsBlock self.now.depth (G.pre self.now.read_block) (G.post self.now.read_block) }
+        requires nests { Nests self.now F.pre F.post G.pre G.post }
         ensures gives { Gives view_stmt (parts.stmt_at self.now.depth names.old tokens.old) result tokens.new }
         ensures after { IfOk result (λ s. names.new ≡ typedefs.after_stmt (view_stmt s) names.old) }
     {
@@ -111,8 +111,7 @@ impl<
         spot: Spot,
         start: StmtStart,
     ) -> Result<Stmt<Spot>, Fault>
-        requires nests { NestsStmt self.now.depth (F.pre self.now.read) (F.post self.now.read) }
-        requires nests_block { NestsBlock self.now.depth (G.pre self.now.read_block) (G.post self.now.read_block) }
+        requires nests { Nests self.now F.pre F.post G.pre G.post }
         ensures gives { Gives view_stmt (parts.first_at self.now.depth start names.old spot tokens.old) result tokens.new }
         ensures after { IfOk result (λ s. names.new ≡ typedefs.after_stmt (view_stmt s) names.old) }
     {
@@ -144,7 +143,7 @@ impl<
     {
         tokens.skip();
         let value = self.ended_clause(tokens, names, Punct::Semicolon)?;
-        Ok(Stmt::Return(spot, value))
+        Ok(Stmt::Return(spot, unboxed(value)))
     }
 
     /// An expression with its semicolon.
@@ -157,9 +156,19 @@ impl<
         ensures gives { Gives view_stmt (parts.plain_at self.now.depth names.old spot tokens.old) result tokens.new }
         ensures after { IfOk result (λ s. names.new ≡ typedefs.after_stmt (view_stmt s) names.old) }
     {
-        let value = expr(self.alloc, tokens, names, self.depth, 1)?;
+        let value = expr(self.alloc, tokens, names, self.depth, levels::COMMA)?;
         tokens.take(Punct::Semicolon)?;
-        Ok(Stmt::Plain(spot, value))
+        Ok(Stmt::Plain(spot, value.into_inner()))
+    }
+}
+
+/// What a clause holds, out of its box.
+pub fn unboxed(clause: Option<Boxed<Expr<Spot>>>) -> Option<Expr<Spot>>
+    ensures { result ≡ clause }
+{
+    match clause {
+        None => None,
+        Some(e) => Some(e.into_inner()),
     }
 }
 
