@@ -6,8 +6,6 @@
 
 mod fault;
 mod file;
-#[cfg(test)]
-mod tests;
 
 pub use fault::ParseFault;
 pub use file::{MAX_DEPTH, parse};
