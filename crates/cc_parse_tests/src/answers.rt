@@ -17,7 +17,7 @@ pub enum Answer {
     NoTokens,
 }
 
-pub fn answer(alloc: Global, text: &[u8]) -> Result<Answer, Memory> {
+pub fn answer_to(alloc: Global, text: &[u8]) -> Result<Answer, Memory> {
     if text.len() > LONGEST {
         return Ok(Answer::NoTokens);
     }
@@ -35,7 +35,7 @@ pub fn answer(alloc: Global, text: &[u8]) -> Result<Answer, Memory> {
 // Whether each text is answered as its row says.
 pub fn are_answered(alloc: Global, rows: &[(&[u8], Answer)]) -> Result<bool, Memory> {
     for (text, wanted) in rows {
-        if answer(alloc, text)? != *wanted {
+        if answer_to(alloc, text)? != *wanted {
             return Ok(false);
         }
     }

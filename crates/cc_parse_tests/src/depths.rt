@@ -1,6 +1,6 @@
 // Texts with one part nested many times, at the limit of depth.
 
-use crate::answers::{Answer, answer};
+use crate::answers::{Answer, answer_to};
 use cc_base::Memory;
 use std::alloc::Global;
 use std::test::Fail;
@@ -190,7 +190,7 @@ fn nested_text(alloc: Global, parts: &[&'static [u8]; 5], count: u32) -> Result<
 fn are_nested(alloc: Global, rows: &[Nested]) -> Result<bool, Memory> {
     for (parts, count, wanted) in rows {
         let text = nested_text(alloc, parts, *count)?;
-        if answer(alloc, text.as_slice())? != *wanted {
+        if answer_to(alloc, text.as_slice())? != *wanted {
             return Ok(false);
         }
     }
