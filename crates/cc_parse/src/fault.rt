@@ -6,7 +6,8 @@ pub enum ParseFault {
     /// There is no tree. Reading from left to right stops at this token, counted from 0; at the end it is the number of
     /// tokens.
     Syntax { token: u64 },
-    /// The same, where this token was refused for its depth alone. No clause says which of the two it is.
+    /// There is no tree, and this token, at which reading stops, was refused for its depth alone. No clause says which of
+    /// the two it is.
     TooDeep { token: u64 },
     /// Memory was wanting. No clause says when.
     Memory,
