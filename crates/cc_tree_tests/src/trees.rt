@@ -176,11 +176,9 @@ pub(crate) fn inner_of<N>(f: &Function<N>) -> Option<&Block<N>> {
 
 /// `sizeof (int)`
 pub(crate) fn size_expr<N>(f: &Function<N>) -> Option<&Expr<N>> {
-    match f.body.items.as_slice() {
-        [Item::Stmt(Stmt::Switch(_, _, inner))] => match inner.items.as_slice() {
-            [Item::Case(_, size), _] => Some(size),
-            _ => None,
-        },
+    let inner = inner_of(f)?;
+    match inner.items.as_slice() {
+        [Item::Case(_, size), _] => Some(size),
         _ => None,
     }
 }
