@@ -174,11 +174,21 @@ pub(crate) fn inner_of<N>(f: &Function<N>) -> Option<&Block<N>> {
     }
 }
 
+// The value of a `case`.
+fn value_of<N>(label: &Item<N>) -> Option<&Expr<N>> {
+    match label {
+        Item::Case(_, value) => Some(value),
+        _ => None,
+    }
+}
+
 /// `sizeof (int)`
 pub(crate) fn size_expr<N>(f: &Function<N>) -> Option<&Expr<N>> {
-    let inner = inner_of(f)?;
-    match inner.items.as_slice() {
-        [Item::Case(_, size), _] => Some(size),
-        _ => None,
+    match inner_of(f) {
+        Some(inner) => match inner.items.as_slice().first() {
+            Some(label) => value_of(label),
+            None => None,
+        },
+        None => None,
     }
 }
