@@ -4,7 +4,7 @@ ghost use Rattle.std.specs.Prelude.{◌≡◌, ◌^◌, pos};
 ghost use Rattle.cc_arith.specs.Kinds.{least, greatest, width_of, is_signed};
 
 /// An integer type of C, up to qualifiers (C17 6.2.5). An enumerated type is an `Int`.
-#[derive(Clone, Copy, Debug, PartialEq, Eq)]
+#[derive(Clone, Copy, Debug, PartialEq, Eq, Hash)]
 pub enum IntKind {
     /// `_Bool`: 0 or 1.
     Bool,

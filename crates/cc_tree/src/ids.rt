@@ -13,5 +13,5 @@ pub struct FuncId(pub u32);
 pub struct VarId(pub u32);
 
 /// A struct type.
-#[derive(Clone, Copy, Debug, PartialEq, Eq)]
+#[derive(Clone, Copy, Debug, PartialEq, Eq, Hash)]
 pub struct StructId(pub u32);

@@ -1,0 +1,3 @@
+pub mod GrowingTables
+pub mod ShapeEquality
+pub mod MadeShapes

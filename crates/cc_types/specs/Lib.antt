@@ -1,0 +1,4 @@
+pub mod CTypes
+pub mod SameTypes
+pub mod Shapes
+pub mod Interning

@@ -1,0 +1,110 @@
+// The table of types.
+ghost use Rattle.std.specs.Prelude.{◌≡◌, [], length, nat_lt, IfOk};
+ghost use Rattle.cc_types.specs.Interning as spec;
+ghost use Rattle.cc_types.specs.Shapes.{built, type_at, types_of, IsSound};
+
+use crate::shape::{Shape, TypeId};
+use cc_base::Memory;
+use indexmap::IndexSet;
+use std::alloc::Global;
+use std::marker::Model;
+
+/// The types so far, each once. What a type is made of stands before it. A contract sees their shapes, in order.
+#[derive(Drop)]
+pub struct TypeTable {
+    shapes: IndexSet<Shape>,
+}
+
+impl Model for TypeTable {
+    ghost use Rattle.std.specs.Prelude.{List};
+    ghost use Rattle.cc_types.specs.declared.shape.Shape.{Shape};
+    ghost use Rattle.cc_types.specs.Shapes.{IsTable};
+
+    ghost Value = { List Shape };
+
+    ghost view = { λ t. t.shapes.keys };
+
+    ghost invariant = { λ t. IsTable t.shapes.keys };
+}
+
+impl TypeTable {
+    /// No types. Takes no memory.
+    pub fn new(alloc: Global) -> TypeTable
+        ensures { result ≡ [] }
+    {
+        TypeTable {
+            shapes: IndexSet::new(alloc),
+        }
+    }
+
+    /// The form of a type; void for a number without a type.
+    pub fn shape(&self, id: TypeId) -> Shape
+        ensures number { result ≡ spec.shape_of self.now id }
+        ensures value { built (types_of self.now) result ≡ type_at (types_of self.now) id }
+        ensures sound { IsSound (types_of self.now) result }
+    {
+        let shapes = self.shapes.as_slice();
+        if (id.0 as usize) < shapes.len() {
+            shapes[id.0 as usize]
+        } else {
+            Shape::Void(false)
+        }
+    }
+
+    // Whether there is a type of this number.
+    fn has(&self, id: TypeId) -> bool
+        ensures { result ≡ nat_lt id.0 (length self.now) }
+    {
+        (id.0 as usize) < self.shapes.len()
+    }
+
+    // Whether there is a type of this number that isn't const.
+    fn has_bare(&self, id: TypeId) -> bool
+        ensures { result ≡ spec.is_bare_in self.now id }
+    {
+        self.has(id) && !self.shape(id).is_const()
+    }
+
+    // Whether there is a function type of this number.
+    fn has_function(&self, id: TypeId) -> bool
+        ensures { result ≡ spec.is_function_in self.now id }
+    {
+        self.has(id) && self.shape(id).is_function()
+    }
+
+    // Whether what the shape is made of is there.
+    fn is_made(&self, a: Shape) -> bool
+        ensures { result ≡ spec.is_made self.now a }
+    {
+        match a {
+            Shape::Pointer(_, t) => self.has(t),
+            Shape::Array(_, t, _) | Shape::Function(t) => self.has_bare(t),
+            Shape::Takes(t, f) => self.has_bare(t) && self.has_function(f),
+            _ => true,
+        }
+    }
+
+    // The shape, or void where what it is made of isn't there.
+    fn made_or_void(&self, a: Shape) -> Shape
+        ensures { result ≡ spec.made_or_void self.now a }
+    {
+        if self.is_made(a) {
+            a
+        } else {
+            Shape::Void(false)
+        }
+    }
+
+    /// The type of this shape, which is in the table from then on. It is void where what the shape is made of isn't in
+    /// the table, or where elements, a result or a parameter are const: `array`, `function` and `takes` see to that.
+    pub fn intern(&mut self, shape: Shape) -> Result<TypeId, Memory>
+        ensures { IfOk result (λ id. (self.new, id) ≡ spec.interned self.old shape) }
+    {
+        let shape = self.made_or_void(shape);
+        if self.shapes.len() > u32::MAX as usize {
+            return Err(Memory);
+        }
+        let (index, _) = self.shapes.insert_full(shape)?;
+        Ok(TypeId(index as u32))
+    }
+}
