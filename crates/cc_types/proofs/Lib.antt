@@ -1,3 +1,5 @@
 pub mod GrowingTables
 pub mod ShapeEquality
 pub mod MadeShapes
+pub mod TypeEquality
+pub mod AskedTypes

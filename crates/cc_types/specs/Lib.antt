@@ -2,3 +2,6 @@ pub mod CTypes
 pub mod SameTypes
 pub mod Shapes
 pub mod Interning
+pub mod Questions
+pub mod ExprTypes
+pub mod Asked

@@ -1,8 +1,11 @@
 //! The types of C as numbers: each type stands once in a [`TypeTable`], so equal types have equal numbers.
 #![tactic(auto)]
 
+mod expr_type;
+mod questions;
 mod shape;
 mod table;
 
+pub use expr_type::ExprType;
 pub use shape::{Shape, TypeId};
 pub use table::TypeTable;

@@ -1,5 +1,6 @@
 // Types by their outermost form.
 ghost use Rattle.std.specs.Prelude.{◌≡◌};
+ghost use Rattle.cc_types.specs.Asked as asked;
 ghost use Rattle.cc_types.specs.Interning as spec;
 
 use cc_arith::IntKind;
@@ -57,5 +58,30 @@ impl Shape {
         ensures { result ≡ spec.is_function self }
     {
         matches!(self, Shape::Function(_) | Shape::Takes(_, _))
+    }
+
+    /// The same type with a const, if one is to be added: the type of a member of a const struct (C17 6.5.2.3).
+    pub fn also_const(self, is_const: bool) -> Shape
+        ensures { result ≡ asked.also_const is_const self }
+    {
+        self.with_const(is_const || self.is_const())
+    }
+
+    /// The same type, const aside. The elements of an array keep theirs.
+    pub fn unqualified(self) -> Shape
+        ensures { result ≡ asked.unqualified self }
+    {
+        match self {
+            Shape::Array(_, _, _) => self,
+            _ => self.with_const(false),
+        }
+    }
+
+    // Whether the other is this type, or this type with a const added, which an array type can't have.
+    pub(crate) fn is_or_gains_const(self, other: Shape) -> bool
+        ensures { result ≡ asked.is_or_gains_const self other }
+    {
+        let is_array = matches!(self, Shape::Array(_, _, _));
+        self == other || !is_array && self.with_const(true) == other
     }
 }

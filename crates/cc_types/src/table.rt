@@ -1,7 +1,7 @@
 // The table of types.
 ghost use Rattle.std.specs.Prelude.{◌≡◌, [], length, nat_lt, IfOk};
 ghost use Rattle.cc_types.specs.Interning as spec;
-ghost use Rattle.cc_types.specs.Shapes.{built, type_at, types_of, IsSound};
+ghost use Rattle.cc_types.specs.Shapes.{built, type_at, types_of, IsSound, IsTable};
 
 use crate::shape::{Shape, TypeId};
 use cc_base::Memory;
@@ -18,13 +18,13 @@ pub struct TypeTable {
 impl Model for TypeTable {
     ghost use Rattle.std.specs.Prelude.{List};
     ghost use Rattle.cc_types.specs.declared.shape.Shape.{Shape};
-    ghost use Rattle.cc_types.specs.Shapes.{IsTable};
+    ghost use Rattle.cc_types.specs.Shapes.{IsTable as IsTypeTable};
 
     ghost Value = { List Shape };
 
     ghost view = { λ t. t.shapes.keys };
 
-    ghost invariant = { λ t. IsTable t.shapes.keys };
+    ghost invariant = { λ t. IsTypeTable t.shapes.keys };
 }
 
 impl TypeTable {
@@ -49,6 +49,13 @@ impl TypeTable {
         } else {
             Shape::Void(false)
         }
+    }
+
+    // Each type stands once, made of earlier ones.
+    pub(crate) fn stands(&self)
+        ensures { IsTable self.now }
+    {
+        let _ = &self.shapes;
     }
 
     // Whether there is a type of this number.
