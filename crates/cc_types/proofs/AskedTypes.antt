@@ -1,19 +1,21 @@
 -- What is asked of shapes is asked of their types.
-use Rattle.std.proofs.Common.{◌≡◌, refl, ap, sym, ◌∙◌, subst, ℕ, Bool, true, false, ◌&&◌, ◌||◌, not, List, nat_lt, length}
+use Rattle.std.proofs.Common.{◌≡◌, refl, ap, sym, ◌∙◌, subst, ℕ, Bool, true, false, ◌&&◌, ◌||◌, not, List, [], ◌<◌, ◌+◌, nat_lt, length, arith}
 use Rattle.std.specs.Prelude.{Option, Some, None, IfSome, option_map}
+use Rattle.std.proofs.lemmas.Bool.{ltb-true, eqb-true, eq-eqb}
 use Rattle.cc_types.specs.CTypes as types
 use Rattle.cc_types.specs.CTypes.{CTypeTree}
-use Rattle.cc_types.specs.SameTypes.{same_type}
+use Rattle.cc_types.specs.SameTypes.{same_type, same_flag}
 use Rattle.cc_types.specs.declared.shape.Shape.{Shape}
 use Rattle.cc_types.specs.declared.shape.Shape.TheVariants as s
+use Rattle.cc_types.specs.declared.shape.TypeId.{TypeId}
 use Rattle.cc_types.specs.declared.expr_type.ExprType.{ExprType}
 use Rattle.cc_types.specs.declared.expr_type.ExprType.TheVariants.{Plain, Address}
-use Rattle.cc_types.specs.Shapes.{built, IsSound, types_of, IsTable}
+use Rattle.cc_types.specs.Shapes.{type_number, type_at, built, IsSound, types_of, IsTable}
 use Rattle.cc_types.specs.ExprTypes.{expr_type, HasSound}
 use Rattle.cc_types.specs.Interning.{same_shape, with_const, shape_of}
 use Rattle.cc_types.specs.Questions as spec
 use Rattle.cc_types.specs.Asked as asked
-use Rattle.cc_types.proofs.GrowingTables.{one_shape}
+use Rattle.cc_types.proofs.GrowingTables.{one_shape, bare_parts, length_from}
 use Rattle.cc_types.proofs.MadeShapes.{type_is, shape_sound}
 use Rattle.cc_types.proofs.ShapeEquality as shapes
 use Rattle.cc_types.proofs.TypeEquality.{says, tells, one_test}
@@ -132,3 +134,27 @@ module _ (ss : List Shape) (table : IsTable ss) where
 
   pub fits_asked : (s : ExprType) (is_null : Bool) (t : ExprType) → HasSound (types_of ss) s → HasSound (types_of ss) t → asked.fits_scalar ss s is_null t ≡ spec.fits_scalar (expr_type (types_of ss) s) is_null (expr_type (types_of ss) t)
   fits_asked s is_null t hs ht = ap (λ b. asked.is_integer ss s && asked.is_integer ss t || b || is_null && asked.is_pointer ss t) (may_point_asked s t hs ht)
+
+  -- ---- Declarations of one name
+
+  pub number_asked : (a b : TypeId) → a.0 < length (types_of ss) → b.0 < length (types_of ss) → asked.same_number a b ≡ same_type (type_at (types_of ss) a) (type_at (types_of ss) b)
+  number_asked a b ha hb =
+      one_test _ _
+          (λ h. tells _ _ (ap (type_number (types_of ss)) (eqb-true a.0 b.0 h)))
+          (λ h. eq-eqb a.0 b.0 (table.once a.0 b.0 ha hb (says _ _ h)))
+
+  length_asked : (a b : Shape) → IsSound (types_of ss) a → IsSound (types_of ss) b → asked.alike_but_length a b ≡ spec.alike_but_length (built (types_of ss) a) (built (types_of ss) b)
+  length_asked (s.Array k t m) (s.Array j u n) ha hb =
+      let p = bare_parts (types_of ss) t ha in
+      let q = bare_parts (types_of ss) u hb in
+      ap (λ e. same_flag k j && e && spec.lacks_length m n) (number_asked t u (ltb-true _ _ p.0) (ltb-true _ _ q.0))
+  length_asked a b ha hb = refl
+
+  pub compatible_asked : (a b : TypeId) → a.0 < length ss → b.0 < length ss → asked.compatible ss a b ≡ spec.compatible (type_at (types_of ss) a) (type_at (types_of ss) b)
+  compatible_asked a b ha hb =
+      let ts = types_of ss in
+      let long = length_from [] ss in
+      let p = number_asked a b (omega (arith, ha, long)) (omega (arith, hb, long)) in
+      let q = length_asked (shape_of ss a) (shape_of ss b) (shape_sound ss table a) (shape_sound ss table b) in
+      let r = ap (λ x. spec.alike_but_length x (built ts (shape_of ss b))) (type_is ss table a) ∙ ap (spec.alike_but_length (type_at ts a)) (type_is ss table b) in
+      two_tests (λ x y. x || y) _ _ _ _ p (q ∙ r)

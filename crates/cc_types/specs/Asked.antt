@@ -1,5 +1,5 @@
 -- What is asked of shapes and of numbers, as a table of types answers it.
-use Rattle.std.specs.Prelude.{Bool, true, false, not, ◌&&◌, ◌||◌, ℕ, nat_eq, List, Option, Some, None}
+use Rattle.std.specs.Prelude.{Bool, true, false, not, ◌&&◌, ◌||◌, ℕ, nat_eq, List, Option, Some, None, if◌then◌else◌}
 use Rattle.cc_types.specs.declared.shape.Shape.{Shape}
 use Rattle.cc_types.specs.declared.shape.Shape.TheVariants as s
 use Rattle.cc_types.specs.declared.shape.TypeId.{TypeId}
@@ -8,6 +8,7 @@ use Rattle.cc_types.specs.declared.expr_type.ExprType.TheVariants.{Plain, Addres
 use Rattle.cc_types.specs.Shapes.{types_of}
 use Rattle.cc_types.specs.ExprTypes.{expr_type}
 use Rattle.cc_types.specs.Interning.{same_shape, is_const, with_const, shape_of, numbered}
+use Rattle.cc_types.specs.SameTypes.{same_flag}
 use Rattle.cc_types.specs.Questions as types
 
 -- the same shape, const aside; an array's const is that of its elements
@@ -64,3 +65,21 @@ is_pointer ss t = types.is_pointer (expr_type (types_of ss) t)
 
 abbrev pub fits_scalar : List Shape → ExprType → Bool → ExprType → Bool
 fits_scalar ss s is_null t = is_integer ss s && is_integer ss t || may_point_at ss s t || is_null && is_pointer ss t
+
+abbrev pub same_number : TypeId → TypeId → Bool
+same_number a b = nat_eq a.0 b.0
+
+-- two arrays of the same elements, one of them without a length
+abbrev pub alike_but_length : Shape → Shape → Bool
+alike_but_length (s.Array k t m) (s.Array j u n) = same_flag k j && same_number t u && types.lacks_length m n
+alike_but_length a b = false
+
+abbrev pub compatible : List Shape → TypeId → TypeId → Bool
+compatible ss a b = same_number a b || alike_but_length (shape_of ss a) (shape_of ss b)
+
+abbrev pub wants_length : Shape → Bool
+wants_length (s.Array k t None) = true
+wants_length a = false
+
+abbrev pub composed : List Shape → TypeId → TypeId → TypeId
+composed ss a b = if wants_length (shape_of ss a) then b else a

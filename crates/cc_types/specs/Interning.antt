@@ -1,5 +1,5 @@
 -- How the list of a table's shapes grows, and how it is read.
-use Rattle.std.specs.Prelude.{ℕ, Bool, true, false, not, ◌&&◌, nat_lt, List, length, Option, slice_index_or, if◌then◌else◌}
+use Rattle.std.specs.Prelude.{ℕ, Bool, true, false, not, ◌&&◌, ◌||◌, nat_lt, List, length, Option, slice_index_or, if◌then◌else◌}
 use Rattle.std.specs.List.{position_or_len}
 use Rattle.indexmap.specs.IndexSet.{insert_key}
 use Rattle.cc_types.specs.declared.shape.Shape.{Shape}
@@ -66,3 +66,22 @@ interned_at ss a = (insert_key same_shape ss a, numbered (position_or_len (same_
 
 abbrev pub interned : List Shape → Shape → List Shape × TypeId
 interned ss a = interned_at ss (made_or_void ss a)
+
+-- the table with the type of number t, but not const, and with what is made of that type
+abbrev pub made_of_bare : (TypeId → Shape) → List Shape → TypeId → List Shape × TypeId
+made_of_bare make ss t = let p = interned ss (with_const false (shape_of ss t)) in interned p.0 (make p.1)
+
+-- The types that a declarator makes (C17 6.7.6.2, 6.7.6.3): const at an element is written at the array, and const at the
+-- top of a result or of a parameter is not written.
+abbrev pub array_made : List Shape → TypeId → Option ℕ → List Shape × TypeId
+array_made ss t n = made_of_bare (λ id. s.Array (is_const (shape_of ss t)) id n) ss t
+
+abbrev pub function_made : List Shape → TypeId → List Shape × TypeId
+function_made ss t = made_of_bare s.Function ss t
+
+abbrev pub taking_made : List Shape → TypeId → TypeId → List Shape × TypeId
+taking_made ss t f = made_of_bare (λ id. s.Takes id f) ss t
+
+-- the type of this number, and const too where that is to be
+abbrev pub const_made : List Shape → Bool → TypeId → List Shape × TypeId
+const_made ss k t = interned ss (with_const (k || is_const (shape_of ss t)) (shape_of ss t))

@@ -112,12 +112,16 @@ abbrev pub lacks_length : Option ℕ → Option ℕ → Bool
 lacks_length (Some m) (Some n) = false
 lacks_length m n = true
 
+-- two arrays of the same elements, one of them without a length
+abbrev pub alike_but_length : CTypeTree → CTypeTree → Bool
+alike_but_length (array_of k t m) (array_of j u n) = same_flag k j && same_type t u && lacks_length m n
+alike_but_length s t = false
+
 -- Declarations of one object or function may have these two types: they are the same, or arrays of the same elements, one
 -- of them without a length. Function types of which only the const of parameters and results differ are one type here
 -- (6.7.6.3, paragraph 15).
 abbrev pub compatible : CTypeTree → CTypeTree → Bool
-compatible (array_of k t m) (array_of j u n) = same_type (array_of k t m) (array_of j u n) || same_flag k j && same_type t u && lacks_length m n
-compatible s t = same_type s t
+compatible s t = same_type s t || alike_but_length s t
 
 -- the type of what both declare: the one with the length
 abbrev pub composed : CTypeTree → CTypeTree → CTypeTree

@@ -1,6 +1,7 @@
 //! The types of C as numbers: each type stands once in a [`TypeTable`], so equal types have equal numbers.
 #![tactic(auto)]
 
+mod declared;
 mod expr_type;
 mod questions;
 mod shape;

@@ -77,6 +77,25 @@ impl Shape {
         }
     }
 
+    // Whether it is an array whose length isn't known.
+    pub(crate) fn wants_length(self) -> bool
+        ensures { result ≡ asked.wants_length self }
+    {
+        matches!(self, Shape::Array(_, _, None))
+    }
+
+    // Whether these are arrays of the same elements, one of them without a length.
+    pub(crate) fn alike_but_length(self, other: Shape) -> bool
+        ensures { result ≡ asked.alike_but_length self other }
+    {
+        match (self, other) {
+            (Shape::Array(k, t, m), Shape::Array(j, u, n)) => {
+                k == j && t.0 == u.0 && (m.is_none() || n.is_none())
+            }
+            _ => false,
+        }
+    }
+
     // Whether the other is this type, or this type with a const added, which an array type can't have.
     pub(crate) fn is_or_gains_const(self, other: Shape) -> bool
         ensures { result ≡ asked.is_or_gains_const self other }

@@ -1,5 +1,5 @@
 // The table of types.
-ghost use Rattle.std.specs.Prelude.{◌≡◌, [], length, nat_lt, IfOk};
+ghost use Rattle.std.specs.Prelude.{◌≡◌, [], false, length, nat_lt, IfOk};
 ghost use Rattle.cc_types.specs.Interning as spec;
 ghost use Rattle.cc_types.specs.Shapes.{built, type_at, types_of, IsSound, IsTable};
 
@@ -113,5 +113,48 @@ impl TypeTable {
         }
         let (index, _) = self.shapes.insert_full(shape)?;
         Ok(TypeId(index as u32))
+    }
+
+    // The number of this type without its const.
+    fn bare(&mut self, id: TypeId) -> Result<TypeId, Memory>
+        ensures { IfOk result (λ bare. (self.new, bare)
+            ≡ spec.interned self.old (spec.with_const false (spec.shape_of self.old id))) }
+    {
+        let shape = self.shape(id).with_const(false);
+        self.intern(shape)
+    }
+
+    /// The type of arrays of these elements (C17 6.7.6.2): const where these are.
+    pub fn array(&mut self, element: TypeId, length: Option<u64>) -> Result<TypeId, Memory>
+        ensures { IfOk result (λ id. (self.new, id) ≡ spec.array_made self.old element length) }
+    {
+        let is_const = self.shape(element).is_const();
+        let bare = self.bare(element)?;
+        self.intern(Shape::Array(is_const, bare, length))
+    }
+
+    /// The type of functions without parameters that have this result (C17 6.7.6.3); its const says nothing.
+    pub fn function(&mut self, value: TypeId) -> Result<TypeId, Memory>
+        ensures { IfOk result (λ id. (self.new, id) ≡ spec.function_made self.old value) }
+    {
+        let bare = self.bare(value)?;
+        self.intern(Shape::Function(bare))
+    }
+
+    /// The type of functions with this parameter before those of another function type (C17 6.7.6.3); its const says
+    /// nothing.
+    pub fn taking(&mut self, parameter: TypeId, function: TypeId) -> Result<TypeId, Memory>
+        ensures { IfOk result (λ id. (self.new, id) ≡ spec.taking_made self.old parameter function) }
+    {
+        let bare = self.bare(parameter)?;
+        self.intern(Shape::Takes(bare, function))
+    }
+
+    /// The same type, and const too where that is to be (C17 6.7.3).
+    pub fn also_const(&mut self, is_const: bool, id: TypeId) -> Result<TypeId, Memory>
+        ensures { IfOk result (λ made. (self.new, made) ≡ spec.const_made self.old is_const id) }
+    {
+        let shape = self.shape(id).also_const(is_const);
+        self.intern(shape)
     }
 }
