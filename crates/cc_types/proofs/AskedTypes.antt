@@ -87,7 +87,7 @@ module _ (ss : List Shape) (table : IsTable ss) where
   pointee_sound (Plain (s.Takes id f)) h = tt
   pointee_sound (Plain (s.Struct k id)) h = tt
 
-two_tests : (f : Bool → Bool → Bool) (a b c d : Bool) → a ≡ b → c ≡ d → f a c ≡ f b d
+pub two_tests : (f : Bool → Bool → Bool) (a b c d : Bool) → a ≡ b → c ≡ d → f a c ≡ f b d
 two_tests f a b c d p q = rw (p, q) refl
 
 module _ (ss : List Shape) (table : IsTable ss) where

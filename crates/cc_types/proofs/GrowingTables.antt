@@ -73,7 +73,7 @@ module _ (ts us : List CTypeTree) (e : Extends ts us) where
       let p = bare_parts ts t h in
       and_both _ _ (there_stays t p.0) (ap (λ x. not (has_const x)) (stays_at t p.0) ∙ p.1)
 
-  function_stays : (f : TypeId) → is_function_number ts f ≡ true → is_function_number us f ≡ true
+  pub function_stays : (f : TypeId) → is_function_number ts f ≡ true → is_function_number us f ≡ true
   function_stays f h =
       let p = function_parts ts f h in
       and_both _ _ (there_stays f p.0) (ap is_function (stays_at f p.0) ∙ p.1)
@@ -154,7 +154,7 @@ module _ (ts : List CTypeTree) (t : CTypeTree) where
 -- ---- Equal types have equal shapes
 
 module _ (ts : List CTypeTree) (once : IsEachOnce ts) where
-  id_is : (p q : TypeId) → ltb p.0 (length ts) ≡ true → ltb q.0 (length ts) ≡ true → type_at ts p ≡ type_at ts q → p ≡ q
+  pub id_is : (p q : TypeId) → ltb p.0 (length ts) ≡ true → ltb q.0 (length ts) ≡ true → type_at ts p ≡ type_at ts q → p ≡ q
   id_is p q hp hq e = let n : p.0 ≡ q.0 = once p.0 q.0 (ltb-true _ _ hp) (ltb-true _ _ hq) e in ap numbered n
 
   bare_is : (p q : TypeId) → is_bare ts p ≡ true → is_bare ts q ≡ true → type_at ts p ≡ type_at ts q → p ≡ q
@@ -198,7 +198,7 @@ module _ (eq : Shape → Shape → Bool) (tells : (a b : Shape) → a ≡ b → 
       let there = found ss a a i (omega (arith, less, length_from [] ss)) same in
       cc
 
-  insert_table : (ss : List Shape) (a : Shape) → IsTable ss → IsSound (types_of ss) a → Table ss (insert_key eq ss a)
+  pub insert_table : (ss : List Shape) (a : Shape) → IsTable ss → IsSound (types_of ss) a → Table ss (insert_key eq ss a)
   insert_table ss a h ha = by (list_any (eq a) ss) refl
     where
       by : (b : Bool) → list_any (eq a) ss ≡ b → Table ss (insert_key eq ss a)

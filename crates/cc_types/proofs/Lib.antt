@@ -3,3 +3,4 @@ pub mod ShapeEquality
 pub mod MadeShapes
 pub mod TypeEquality
 pub mod AskedTypes
+pub mod Interned

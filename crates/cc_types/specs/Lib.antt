@@ -5,3 +5,4 @@ pub mod Interning
 pub mod Questions
 pub mod ExprTypes
 pub mod Asked
+pub mod Laws

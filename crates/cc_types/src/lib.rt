@@ -3,6 +3,7 @@
 
 mod declared;
 mod expr_type;
+pub mod laws;
 mod questions;
 mod shape;
 mod table;
