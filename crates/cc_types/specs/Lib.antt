@@ -6,3 +6,5 @@ pub mod Questions
 pub mod ExprTypes
 pub mod Asked
 pub mod Laws
+pub mod Measures
+pub mod Structs

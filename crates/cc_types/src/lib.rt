@@ -4,10 +4,14 @@
 mod declared;
 mod expr_type;
 pub mod laws;
+mod measure;
 mod questions;
 mod shape;
+mod structs;
 mod table;
 
 pub use expr_type::ExprType;
+pub use measure::Measure;
 pub use shape::{Shape, TypeId};
+pub use structs::{Member, MemberList, StructEntry, Structs};
 pub use table::TypeTable;

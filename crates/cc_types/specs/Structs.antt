@@ -1,0 +1,35 @@
+-- The structs of a project.
+use Rattle.std.specs.Prelude.{ℕ, ◌+◌, ◌<◌, ◌≡◌, Bool, true, false, not, ◌&&◌, nat_lt, if◌then◌else◌, List, [], ◌∷◌, ◌++◌, length, Option, Some, None, bytes_eq, slice_set}
+use Rattle.cc_tree.specs.declared.ids.StructId.{StructId}
+use Rattle.cc_types.specs.declared.measure.Measure.{Measure}
+use Rattle.cc_types.specs.declared.structs.StructEntry.{StructEntry}
+use Rattle.cc_types.specs.declared.structs.Member.{Member}
+use Rattle.cc_types.specs.CTypes.{CTypeTree}
+use Rattle.cc_types.specs.Measures.{declared_entry, entry_of, members_measured}
+
+abbrev pub struct_number : ℕ → StructId
+struct_number n = record { 0 = n }
+
+-- the structs with one more, which has no members as yet, and its number
+abbrev pub added : List StructEntry → Bool → ℕ → List StructEntry × StructId
+added es is_tagged token = (es ++ declared_entry is_tagged token ∷ [], struct_number (length es))
+
+abbrev pub is_complete : List StructEntry → StructId → Bool
+is_complete es id = (entry_of es id).measure.is_complete
+
+-- the entry with its members
+abbrev pub with_members : StructEntry → List Member → Measure → StructEntry
+with_members e ms m = record { is_tagged = e.is_tagged; token = e.token; members = ms; measure = m }
+
+abbrev pub completed_by : List StructEntry → StructId → List Member → Measure → List StructEntry
+completed_by es id ms m = if not (is_complete es id) && m.is_complete then slice_set es id.0 (with_members (entry_of es id) ms m) else es
+
+-- The structs once this one has its members (C17 6.7.2.1). They stay as they are where it is complete already, or where the
+-- type of a member isn't complete.
+abbrev pub completed : List CTypeTree → List StructEntry → StructId → List Member → List StructEntry
+completed ts es id ms = completed_by es id ms (members_measured ts es ms)
+
+-- the first member of this name, with its place among the members
+abbrev pub member_from : ℕ → List Member → List ℕ → Option (ℕ × Member)
+member_from i [] x = None
+member_from i (m ∷ ms) x = if bytes_eq m.name x then Some (i, m) else member_from (i + 1) ms x
