@@ -3,6 +3,7 @@
 
 mod declared;
 mod expr_type;
+mod fitting;
 pub mod laws;
 mod measure;
 mod questions;

@@ -5,6 +5,7 @@ ghost use Rattle.cc_types.specs.Shapes.{built, type_at, types_of};
 ghost use Rattle.cc_types.specs.Measures as measures;
 ghost use Rattle.cc_types.specs.Structs as spec;
 
+use crate::expr_type::ExprType;
 use crate::measure::Measure;
 use crate::shape::{Shape, TypeId};
 use crate::table::TypeTable;
@@ -90,5 +91,116 @@ impl Structs {
         ensures { result ≡ spec.is_complete self.now id }
     {
         self.kept(id).is_complete
+    }
+
+    /// Whether a struct has a tag.
+    pub fn is_tagged(&self, id: StructId) -> bool
+        ensures { result ≡ (measures.entry_of self.now id).is_tagged }
+    {
+        (id.0 as usize) < self.entries.len() && self.entries[id.0 as usize].is_tagged
+    }
+
+    /// The number of the node of a struct's first token; 0 past the last struct.
+    pub fn token(&self, id: StructId) -> u32
+        ensures { result ≡ (measures.entry_of self.now id).token }
+    {
+        if (id.0 as usize) < self.entries.len() {
+            self.entries[id.0 as usize].token
+        } else {
+            0
+        }
+    }
+
+    /// The members of a struct, in order; none where it isn't complete.
+    pub fn members(&self, id: StructId) -> &[Member]
+        ensures { result.now ≡ (measures.entry_of self.now id).members }
+    {
+        if (id.0 as usize) < self.entries.len() {
+            self.entries[id.0 as usize].members.as_slice()
+        } else {
+            &[]
+        }
+    }
+
+    /// The first member of this name: its place among the members, from 0, and its type.
+    pub fn member(&self, id: StructId, name: &str) -> Option<(usize, TypeId)>
+        ensures { result ≡ spec.member_named self.now id name.now }
+    {
+        first_named(self.members(id), name)
+    }
+
+    /// What is measured of a type, where these are the structs.
+    pub fn measure(&self, table: &TypeTable, a: Shape) -> Measure
+        ensures { result ≡ measures.measure_of self.now (built (types_of table.now) a) }
+    {
+        measured(self, table, a)
+    }
+
+    // What is measured of a struct with these members.
+    fn members_measured(&self, table: &TypeTable, members: &[Member]) -> Measure
+        ensures { result ≡ measures.members_measured (types_of table.now) self.now members.now }
+    {
+        let mut room = Measure::empty();
+        for member in members {
+            let shape = table.shape(member.kind);
+            let is_const = table.is_const(ExprType::Plain(shape));
+            room = room.joined(is_const, self.measure(table, shape));
+        }
+        room.ended()
+    }
+
+    // Gives a struct its members, if there is such a struct.
+    fn put(&mut self, id: StructId, members: MemberList, measure: Measure)
+        ensures { self.new ≡ slice_set self.old id.0 (spec.with_members (measures.entry_of self.old id) members measure) }
+    {
+        let is_tagged = self.is_tagged(id);
+        let token = self.token(id);
+        if (id.0 as usize) < self.entries.len() {
+            self.entries[id.0 as usize] = StructEntry {
+                is_tagged,
+                token,
+                members,
+                measure,
+            };
+        }
+    }
+
+    /// Gives a struct its members, in order (C17 6.7.2.1). It stays as it is where it is complete already, or where the
+    /// type of a member isn't complete.
+    pub fn complete(&mut self, table: &TypeTable, id: StructId, members: MemberList)
+        ensures { self.new ≡ spec.completed (types_of table.now) self.old id members }
+    {
+        let measure = self.members_measured(table, members.as_slice());
+        if !self.is_complete(id) && measure.is_complete {
+            self.put(id, members, measure);
+        }
+    }
+}
+
+// The first member of this name, with its place.
+fn first_named(members: &[Member], name: &str) -> Option<(usize, TypeId)>
+    ensures { result ≡ spec.member_from 0 members.now name.now }
+{
+    for (place, member) in members.iter().enumerate() {
+        if member.name.as_str() == name {
+            return Some((place, member.kind));
+        }
+    }
+    None
+}
+
+// What is measured of a type. It goes as deep as arrays stand in one another.
+fn measured(structs: &Structs, table: &TypeTable, a: Shape) -> Measure
+    ensures { result ≡ measures.measure_of structs.now (built (types_of table.now) a) }
+{
+    match a {
+        Shape::Array(is_const, element, length) => {
+            let one = measured(structs, table, table.shape(element));
+            one.array(is_const, length)
+        }
+        Shape::Struct(_, id) => structs.kept(id),
+        Shape::Integer(_, kind) => Measure::integer(kind),
+        Shape::Pointer(_, _) => Measure::pointer(),
+        Shape::Void(_) | Shape::Function(_) | Shape::Takes(_, _) => Measure::nothing(),
     }
 }
