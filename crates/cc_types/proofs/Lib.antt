@@ -4,3 +4,4 @@ pub mod MadeShapes
 pub mod TypeEquality
 pub mod AskedTypes
 pub mod Interned
+pub mod MeasuredStructs

@@ -1,11 +1,17 @@
 -- Laws of the table of types, as statements.
-use Rattle.std.specs.Prelude.{◌≡◌, ◌<◌, ◌↔◌, true, ℕ, Bool, List, length, Option}
+use Rattle.std.specs.Prelude.{◌≡◌, ◌<◌, ◌↔◌, true, ℕ, Bool, List, [], length, Option}
 use Rattle.cc_types.specs.CTypes.{CTypeTree, is_function, array_from, function_to, function_taking}
 use Rattle.cc_types.specs.SameTypes.{same_type}
 use Rattle.cc_types.specs.Questions.{also_const}
 use Rattle.cc_types.specs.declared.shape.Shape.{Shape}
 use Rattle.cc_types.specs.declared.shape.TypeId.{TypeId}
 use Rattle.cc_types.specs.Shapes.{type_at, types_of, built, IsSound, IsTable, Extends}
+use Rattle.cc_tree.specs.declared.ids.StructId.{StructId}
+use Rattle.cc_types.specs.declared.structs.StructEntry.{StructEntry}
+use Rattle.cc_types.specs.declared.structs.Member.{Member}
+use Rattle.cc_types.specs.declared.depth.DepthItem.{DepthItem}
+use Rattle.cc_types.specs.Measures.{entry_of, members_measured}
+use Rattle.cc_types.specs.Structs.{is_complete, added, completed}
 use Rattle.cc_types.specs.Interning.{interned, array_made, function_made, taking_made, const_made}
 
 -- the test of types says that they are the same
@@ -46,3 +52,25 @@ ParametersAreTaken = (ss : List Shape) → IsTable ss → (t f : TypeId) → f.0
 
 abbrev pub ConstIsAdded : Type 0
 ConstIsAdded = (ss : List Shape) → IsTable ss → (k : Bool) (t : TypeId) → Makes ss (const_made ss k t) (also_const k (type_at (types_of ss) t))
+
+-- What each struct keeps is what its members measure: it is complete where each of them is, and then nothing changes it.
+pub record AreMeasured (ts : List CTypeTree) (es : List StructEntry) : Type 0 where
+  pub kept : (id : StructId) → is_complete es id ≡ true → (entry_of es id).measure ≡ members_measured ts es (entry_of es id).members
+
+abbrev pub NoStructsAreMeasured : Type 0
+NoStructsAreMeasured = (ts : List CTypeTree) → AreMeasured ts []
+
+abbrev pub AddingKeepsMeasures : Type 0
+AddingKeepsMeasures = (ts : List CTypeTree) (es : List StructEntry) (is_tagged : Bool) (token : ℕ) → AreMeasured ts es → AreMeasured ts (added es is_tagged token).0
+
+abbrev pub CompletingKeepsMeasures : Type 0
+CompletingKeepsMeasures = (ss : List Shape) (es : List StructEntry) (ds : List DepthItem) (id : StructId) (ms : List Member)
+    → AreMeasured (types_of ss) es → AreMeasured (types_of ss) (completed ss es ds id ms)
+
+abbrev pub MoreTypesKeepMeasures : Type 0
+MoreTypesKeepMeasures = (ts us : List CTypeTree) → Extends ts us → (es : List StructEntry) → AreMeasured ts es → AreMeasured us es
+
+-- a complete struct stays as it is
+abbrev pub CompleteStructsStay : Type 0
+CompleteStructsStay = (ss : List Shape) (es : List StructEntry) (ds : List DepthItem) (id : StructId) (ms : List Member) (other : StructId)
+    → is_complete es other ≡ true → entry_of (completed ss es ds id ms) other ≡ entry_of es other

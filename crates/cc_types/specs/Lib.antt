@@ -8,3 +8,4 @@ pub mod Asked
 pub mod Laws
 pub mod Measures
 pub mod Structs
+pub mod Depths

@@ -86,7 +86,7 @@ ended s = record { is_complete = s.is_complete; cells = s.cells; size = padded s
 
 -- a struct without members as yet
 abbrev pub declared_entry : Bool → ℕ → StructEntry
-declared_entry is_tagged token = record { is_tagged = is_tagged; token = token; members = []; measure = nothing }
+declared_entry is_tagged token = record { is_tagged = is_tagged; token = token; members = []; measure = nothing; depth = record { whole = 1; inside = 1 } }
 
 -- what a struct keeps, by its number; past the last one nothing
 abbrev pub entry_of : List StructEntry → StructId → StructEntry

@@ -12,6 +12,9 @@ use Rattle.cc_types.specs.Shapes.{types_of}
 use Rattle.cc_types.specs.ExprTypes.{expr_type}
 use Rattle.cc_types.specs.Questions.{fits_scalar}
 use Rattle.cc_types.specs.Asked as asked
+use Rattle.cc_types.specs.declared.depth.Depth.{Depth}
+use Rattle.cc_types.specs.declared.depth.DepthItem.{DepthItem}
+use Rattle.cc_types.specs.Depths.{members_depth}
 use Rattle.cc_types.specs.Measures.{declared_entry, entry_of, members_measured}
 
 abbrev pub struct_number : ℕ → StructId
@@ -25,16 +28,16 @@ abbrev pub is_complete : List StructEntry → StructId → Bool
 is_complete es id = (entry_of es id).measure.is_complete
 
 -- the entry with its members
-abbrev pub with_members : StructEntry → List Member → Measure → StructEntry
-with_members e ms m = record { is_tagged = e.is_tagged; token = e.token; members = ms; measure = m }
+abbrev pub with_members : StructEntry → List Member → Measure → Depth → StructEntry
+with_members e ms m d = record { is_tagged = e.is_tagged; token = e.token; members = ms; measure = m; depth = d }
 
-abbrev pub completed_by : List StructEntry → StructId → List Member → Measure → List StructEntry
-completed_by es id ms m = if not (is_complete es id) && m.is_complete then slice_set es id.0 (with_members (entry_of es id) ms m) else es
+abbrev pub completed_by : List StructEntry → StructId → List Member → Measure → Depth → List StructEntry
+completed_by es id ms m d = if not (is_complete es id) && m.is_complete then slice_set es id.0 (with_members (entry_of es id) ms m d) else es
 
 -- The structs once this one has its members (C17 6.7.2.1). They stay as they are where it is complete already, or where the
 -- type of a member isn't complete.
-abbrev pub completed : List CTypeTree → List StructEntry → StructId → List Member → List StructEntry
-completed ts es id ms = completed_by es id ms (members_measured ts es ms)
+abbrev pub completed : List Shape → List StructEntry → List DepthItem → StructId → List Member → List StructEntry
+completed ss es ds id ms = completed_by es id ms (members_measured (types_of ss) es ms) (members_depth ss es ds ms)
 
 -- the first member of this name: its place among the members from i on, and its type
 abbrev pub member_from : ℕ → List Member → List ℕ → Option (ℕ × TypeId)

@@ -1,5 +1,5 @@
 //! Laws of the definitions, for the crates above: each function does nothing, and its contract is the law.
-ghost use Rattle.cc_types.specs.Laws.{SameTypesAreTold, EqualTypesHaveEqualNumbers, EqualTypesHaveEqualShapes, InterningMakes, ArraysAreMade, FunctionsAreMade, ParametersAreTaken, ConstIsAdded};
+ghost use Rattle.cc_types.specs.Laws.{SameTypesAreTold, EqualTypesHaveEqualNumbers, EqualTypesHaveEqualShapes, InterningMakes, ArraysAreMade, FunctionsAreMade, ParametersAreTaken, ConstIsAdded, NoStructsAreMeasured, AddingKeepsMeasures, CompletingKeepsMeasures, MoreTypesKeepMeasures, CompleteStructsStay};
 
 /// The test of types says that they are the same, and in a table of types equal types have equal numbers and equal shapes.
 pub fn equality_laws()
@@ -15,4 +15,14 @@ pub fn making_laws()
     ensures functions { FunctionsAreMade }
     ensures parameters { ParametersAreTaken }
     ensures added { ConstIsAdded }
+{}
+
+/// What each complete struct keeps is what its members measure, from no structs on over all calls that change structs or
+/// the table of types; and a complete struct stays as it is.
+pub fn struct_laws()
+    ensures none { NoStructsAreMeasured }
+    ensures adding { AddingKeepsMeasures }
+    ensures completing { CompletingKeepsMeasures }
+    ensures more_types { MoreTypesKeepMeasures }
+    ensures stay { CompleteStructsStay }
 {}

@@ -2,6 +2,8 @@
 #![tactic(auto)]
 
 mod declared;
+mod depth;
+mod depths;
 mod expr_type;
 mod fitting;
 pub mod laws;
@@ -11,6 +13,8 @@ mod shape;
 mod structs;
 mod table;
 
+pub use depth::{Depth, DepthItem};
+pub use depths::Depths;
 pub use expr_type::ExprType;
 pub use measure::Measure;
 pub use shape::{Shape, TypeId};

@@ -47,7 +47,7 @@ fn padded(n: u64, alignment: u64) -> u64
     n.saturating_add(gap(n, alignment))
 }
 
-fn larger(a: u64, b: u64) -> u64
+pub(crate) fn larger(a: u64, b: u64) -> u64
     ensures { result ≡ spec.larger a b }
 {
     if a < b {

@@ -3,8 +3,11 @@ ghost use Rattle.std.specs.Prelude.{◌≡◌, [], slice_set, IfOk};
 ghost use Rattle.cc_types.specs.CTypes.{has_const};
 ghost use Rattle.cc_types.specs.Shapes.{built, type_at, types_of};
 ghost use Rattle.cc_types.specs.Measures as measures;
+ghost use Rattle.cc_types.specs.Depths as depths;
 ghost use Rattle.cc_types.specs.Structs as spec;
 
+use crate::depth::Depth;
+use crate::depths::Depths;
 use crate::expr_type::ExprType;
 use crate::measure::Measure;
 use crate::shape::{Shape, TypeId};
@@ -31,6 +34,7 @@ pub struct StructEntry {
     pub token: u32,
     pub members: MemberList,
     pub measure: Measure,
+    pub depth: Depth,
 }
 
 /// The structs so far, by number.
@@ -71,6 +75,7 @@ impl Structs {
             token,
             members: List::new(alloc),
             measure: Measure::nothing(),
+            depth: Depth::flat(1),
         })?;
         Ok(StructId(number as u32))
     }
@@ -83,6 +88,28 @@ impl Structs {
             self.entries[id.0 as usize].measure
         } else {
             Measure::nothing()
+        }
+    }
+
+    // How deep a struct is, and how deep where it is reached through a pointer or a function type.
+    pub(crate) fn depth_of_struct(&self, id: StructId) -> Depth
+        ensures { result ≡ depths.struct_depth (measures.entry_of self.now id) }
+    {
+        let kept = self.kept_depth(id);
+        if self.is_tagged(id) {
+            kept.with_inside(1)
+        } else {
+            kept
+        }
+    }
+
+    fn kept_depth(&self, id: StructId) -> Depth
+        ensures { result ≡ (measures.entry_of self.now id).depth }
+    {
+        if (id.0 as usize) < self.entries.len() {
+            self.entries[id.0 as usize].depth
+        } else {
+            Depth::flat(1)
         }
     }
 
@@ -150,8 +177,9 @@ impl Structs {
     }
 
     // Gives a struct its members, if there is such a struct.
-    fn put(&mut self, id: StructId, members: MemberList, measure: Measure)
-        ensures { self.new ≡ slice_set self.old id.0 (spec.with_members (measures.entry_of self.old id) members measure) }
+    fn put(&mut self, id: StructId, members: MemberList, measure: Measure, depth: Depth)
+        ensures { self.new ≡ slice_set self.old id.0
+            (spec.with_members (measures.entry_of self.old id) members measure depth) }
     {
         let is_tagged = self.is_tagged(id);
         let token = self.token(id);
@@ -161,18 +189,22 @@ impl Structs {
                 token,
                 members,
                 measure,
+                depth,
             };
         }
     }
 
     /// Gives a struct its members, in order (C17 6.7.2.1). It stays as it is where it is complete already, or where the
     /// type of a member isn't complete.
-    pub fn complete(&mut self, table: &TypeTable, id: StructId, members: MemberList)
-        ensures { self.new ≡ spec.completed (types_of table.now) self.old id members }
+    ///
+    /// The depth that it keeps comes from `depths`, which is to have caught up with the table.
+    pub fn complete(&mut self, table: &TypeTable, depths: &Depths, id: StructId, members: MemberList)
+        ensures { self.new ≡ spec.completed table.now self.old depths.now id members }
     {
         let measure = self.members_measured(table, members.as_slice());
+        let depth = depths.of_members(table, self, members.as_slice());
         if !self.is_complete(id) && measure.is_complete {
-            self.put(id, members, measure);
+            self.put(id, members, measure, depth);
         }
     }
 }

@@ -1,5 +1,5 @@
 // The table of types.
-ghost use Rattle.std.specs.Prelude.{◌≡◌, [], false, length, nat_lt, IfOk};
+ghost use Rattle.std.specs.Prelude.{◌≡◌, [], false, drop, length, nat_lt, IfOk};
 ghost use Rattle.cc_types.specs.Interning as spec;
 ghost use Rattle.cc_types.specs.Shapes.{built, type_at, types_of, IsSound, IsTable};
 
@@ -48,6 +48,18 @@ impl TypeTable {
             shapes[id.0 as usize]
         } else {
             Shape::Void(false)
+        }
+    }
+
+    // The shapes from this number on.
+    pub(crate) fn shapes_from(&self, number: usize) -> &[Shape]
+        ensures { result.now ≡ drop number self.now }
+    {
+        let shapes = self.shapes.as_slice();
+        if number < shapes.len() {
+            &shapes[number..]
+        } else {
+            &[]
         }
     }
 
