@@ -5,3 +5,4 @@ pub mod TypeEquality
 pub mod AskedTypes
 pub mod Interned
 pub mod MeasuredStructs
+pub mod ListedDepths

@@ -1,5 +1,5 @@
 -- Laws of the table of types, as statements.
-use Rattle.std.specs.Prelude.{◌≡◌, ◌<◌, ◌↔◌, true, ℕ, Bool, List, [], length, Option}
+use Rattle.std.specs.Prelude.{◌≡◌, ◌<◌, ◌≤◌, ◌+◌, ◌-◌, ◌^◌, ◌↔◌, true, false, ℕ, take, Bool, List, [], length, Option}
 use Rattle.cc_types.specs.CTypes.{CTypeTree, is_function, array_from, function_to, function_taking}
 use Rattle.cc_types.specs.SameTypes.{same_type}
 use Rattle.cc_types.specs.Questions.{also_const}
@@ -10,7 +10,9 @@ use Rattle.cc_tree.specs.declared.ids.StructId.{StructId}
 use Rattle.cc_types.specs.declared.structs.StructEntry.{StructEntry}
 use Rattle.cc_types.specs.declared.structs.Member.{Member}
 use Rattle.cc_types.specs.declared.depth.DepthItem.{DepthItem}
-use Rattle.cc_types.specs.Measures.{entry_of, members_measured}
+use Rattle.cc_types.specs.Measures.{entry_of, members_measured, capped}
+use Rattle.cc_types.specs.Depths.{depth_of, depth_in, item_at, caught_up}
+use Rattle.cc_types.specs.Asked.{is_array}
 use Rattle.cc_types.specs.Structs.{is_complete, added, completed}
 use Rattle.cc_types.specs.Interning.{interned, array_made, function_made, taking_made, const_made}
 
@@ -74,3 +76,31 @@ MoreTypesKeepMeasures = (ts us : List CTypeTree) → Extends ts us → (es : Lis
 abbrev pub CompleteStructsStay : Type 0
 CompleteStructsStay = (ss : List Shape) (es : List StructEntry) (ds : List DepthItem) (id : StructId) (ms : List Member) (other : StructId)
     → is_complete es other ≡ true → entry_of (completed ss es ds id ms) other ≡ entry_of es other
+
+-- no depth that a struct keeps is too great to be counted
+pub record AreCounted (es : List StructEntry) : Type 0 where
+  pub whole : (id : StructId) → (entry_of es id).depth.whole ≤ 2 ^ 64 - 1
+  pub inside : (id : StructId) → (entry_of es id).depth.inside ≤ 2 ^ 64 - 1
+
+-- what is listed of a type is right, where these are the structs; only the depth inside depends on them
+pub record ItemIs (ts : List CTypeTree) (es : List StructEntry) (i : DepthItem) (t : CTypeTree) : Type 0 where
+  pub inside : i.inside ≡ (depth_of es t).inside
+  pub whole : (any : List StructEntry) → AreCounted any → capped (i.levels + (depth_of any (built ts i.base)).whole) ≡ (depth_of any t).whole
+  pub base : is_array i.base ≡ false
+  pub sound : IsSound ts i.base
+
+-- the depths of all types of the table are listed
+pub record AreListed (ss : List Shape) (es : List StructEntry) (ds : List DepthItem) : Type 0 where
+  pub long : length ds ≡ length ss
+  pub items : (id : TypeId) → ItemIs (types_of ss) es (item_at ds id) (type_at (types_of ss) id)
+
+-- then the depth of a shape is that of its type
+abbrev pub ListedDepthsAreRight : Type 0
+ListedDepthsAreRight = (ss : List Shape) (es : List StructEntry) (ds : List DepthItem) → AreCounted es → AreListed ss es ds → (a : Shape) → depth_in es ds a ≡ depth_of es (built (types_of ss) a)
+
+-- from the depths of the table's first types catching up leads to those of all
+abbrev pub CatchingUpLists : Type 0
+CatchingUpLists = (ss : List Shape) (es : List StructEntry) (ds : List DepthItem) → IsTable ss → AreListed (take (length ds) ss) es ds → AreListed ss es (caught_up ss es ds)
+
+abbrev pub NothingIsListed : Type 0
+NothingIsListed = (es : List StructEntry) → AreListed [] es []

@@ -1,5 +1,5 @@
 //! Laws of the definitions, for the crates above: each function does nothing, and its contract is the law.
-ghost use Rattle.cc_types.specs.Laws.{SameTypesAreTold, EqualTypesHaveEqualNumbers, EqualTypesHaveEqualShapes, InterningMakes, ArraysAreMade, FunctionsAreMade, ParametersAreTaken, ConstIsAdded, NoStructsAreMeasured, AddingKeepsMeasures, CompletingKeepsMeasures, MoreTypesKeepMeasures, CompleteStructsStay};
+ghost use Rattle.cc_types.specs.Laws.{SameTypesAreTold, EqualTypesHaveEqualNumbers, EqualTypesHaveEqualShapes, InterningMakes, ArraysAreMade, FunctionsAreMade, ParametersAreTaken, ConstIsAdded, NoStructsAreMeasured, AddingKeepsMeasures, CompletingKeepsMeasures, MoreTypesKeepMeasures, CompleteStructsStay, NothingIsListed, CatchingUpLists, ListedDepthsAreRight};
 
 /// The test of types says that they are the same, and in a table of types equal types have equal numbers and equal shapes.
 pub fn equality_laws()
@@ -25,4 +25,11 @@ pub fn struct_laws()
     ensures completing { CompletingKeepsMeasures }
     ensures more_types { MoreTypesKeepMeasures }
     ensures stay { CompleteStructsStay }
+{}
+
+/// Once `Depths` has caught up with the table, it gives the depth of each type whose parts are in the table.
+pub fn depth_laws()
+    ensures none { NothingIsListed }
+    ensures catching_up { CatchingUpLists }
+    ensures right { ListedDepthsAreRight }
 {}
