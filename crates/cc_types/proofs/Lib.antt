@@ -6,3 +6,4 @@ pub mod AskedTypes
 pub mod Interned
 pub mod MeasuredStructs
 pub mod ListedDepths
+pub mod DeepStructs

@@ -23,7 +23,7 @@ use Rattle.cc_types.proofs.GrowingTables.{built_stays, sound_stays, one_more, ty
 abbrev most : ℕ
 most = 2 ^ 64 - 1
 
-capped_within : (n : ℕ) → capped n ≤ most
+pub capped_within : (n : ℕ) → capped n ≤ most
 capped_within n = omega arith
 
 larger_within : (a b m : ℕ) → a ≤ m → b ≤ m → larger a b ≤ m
@@ -141,7 +141,7 @@ item_stays ts us es i t more h = record {
 void_item : (ts : List CTypeTree) (es : List StructEntry) → ItemIs ts es no_item (void false)
 void_item ts es = record { inside = refl; whole = λ any counted. stays_capped 1 (omega arith); base = refl; sound = refl }
 
-three_ways : (i n : ℕ) → ((i < n) ⊎ (i ≡ n)) ⊎ (n + 1 ≤ i)
+pub three_ways : (i n : ℕ) → ((i < n) ⊎ (i ≡ n)) ⊎ (n + 1 ≤ i)
 three_ways i n = by (nat_lt i n) (nat_lt i (n + 1)) refl refl
   where
     by : (a b : Bool) → nat_lt i n ≡ a → nat_lt i (n + 1) ≡ b → ((i < n) ⊎ (i ≡ n)) ⊎ (n + 1 ≤ i)

@@ -23,7 +23,7 @@ first : (a b : Bool) → (a && b) ≡ true → a ≡ true
 first a b e = (both a b e).0
 
 -- a struct is complete only if it was before each member
-starts : (ts : List CTypeTree) (es : List StructEntry) (s : Measure) (ms : List Member) → (members_from ts es s ms).is_complete ≡ true → s.is_complete ≡ true
+pub starts : (ts : List CTypeTree) (es : List StructEntry) (s : Measure) (ms : List Member) → (members_from ts es s ms).is_complete ≡ true → s.is_complete ≡ true
 starts ts es s [] e = e
 starts ts es s (m ∷ ms) e =
     let t = type_at ts m.kind in
@@ -74,7 +74,7 @@ more_types ts us more es all = record { kept = λ id e. kept_stays ts us es es m
 
 -- ---- One struct more
 
-complete_within : (es : List StructEntry) (id : StructId) → is_complete es id ≡ true → id.0 < length es
+pub complete_within : (es : List StructEntry) (id : StructId) → is_complete es id ≡ true → id.0 < length es
 complete_within es id e = by (nat_lt id.0 (length es)) refl
   where
     by : (b : Bool) → nat_lt id.0 (length es) ≡ b → id.0 < length es

@@ -1,5 +1,5 @@
 -- How deep types are.
-use Rattle.std.specs.Prelude.{ℕ, ◌+◌, Bool, true, false, if◌then◌else◌, List, [], ◌∷◌, ◌++◌, length, drop, slice_index_or}
+use Rattle.std.specs.Prelude.{ℕ, ◌+◌, nat_eq, Bool, true, false, ◌||◌, if◌then◌else◌, List, [], ◌∷◌, ◌++◌, length, drop, slice_index_or}
 use Rattle.cc_tree.specs.declared.ids.StructId.{StructId}
 use Rattle.cc_types.specs.declared.depth.Depth.{Depth}
 use Rattle.cc_types.specs.declared.depth.DepthItem.{DepthItem}
@@ -103,3 +103,22 @@ depth_from ss es ds d (m ∷ ms) = depth_from ss es ds (deepest d (depth_in es d
 -- a struct has 1 more than its deepest member
 abbrev pub members_depth : List Shape → List StructEntry → List DepthItem → List Member → Depth
 members_depth ss es ds ms = sunk (depth_from ss es ds (flat 0) ms)
+
+-- ---- What structs keep
+
+-- the members one after another, by their types
+abbrev pub deepest_from : List CTypeTree → List StructEntry → Depth → List Member → Depth
+deepest_from ts es d [] = d
+deepest_from ts es d (m ∷ ms) = deepest_from ts es (deepest d (depth_of es (type_at ts m.kind))) ms
+
+abbrev pub struct_deep : List CTypeTree → List StructEntry → List Member → Depth
+struct_deep ts es ms = sunk (deepest_from ts es (flat 0) ms)
+
+-- whether a struct stands anywhere in a type
+abbrev pub mentions : StructId → CTypeTree → Bool
+mentions id (pointer_to k t) = mentions id t
+mentions id (array_of k t n) = mentions id t
+mentions id (returning t) = mentions id t
+mentions id (taking t f) = mentions id t || mentions id f
+mentions id (struct_by k other) = nat_eq other.0 id.0
+mentions id t = false

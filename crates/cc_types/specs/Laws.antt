@@ -1,5 +1,5 @@
 -- Laws of the table of types, as statements.
-use Rattle.std.specs.Prelude.{◌≡◌, ◌<◌, ◌≤◌, ◌+◌, ◌-◌, ◌^◌, ◌↔◌, true, false, ℕ, take, Bool, List, [], length, Option}
+use Rattle.std.specs.Prelude.{◌≡◌, ◌<◌, ◌≤◌, ◌+◌, ◌-◌, ◌^◌, ◌↔◌, ◌⊎◌, true, false, ℕ, take, Bool, List, [], length, Option}
 use Rattle.cc_types.specs.CTypes.{CTypeTree, is_function, array_from, function_to, function_taking}
 use Rattle.cc_types.specs.SameTypes.{same_type}
 use Rattle.cc_types.specs.Questions.{also_const}
@@ -11,7 +11,7 @@ use Rattle.cc_types.specs.declared.structs.StructEntry.{StructEntry}
 use Rattle.cc_types.specs.declared.structs.Member.{Member}
 use Rattle.cc_types.specs.declared.depth.DepthItem.{DepthItem}
 use Rattle.cc_types.specs.Measures.{entry_of, members_measured, capped}
-use Rattle.cc_types.specs.Depths.{depth_of, depth_in, item_at, caught_up}
+use Rattle.cc_types.specs.Depths.{depth_of, depth_in, item_at, caught_up, mentions, struct_deep}
 use Rattle.cc_types.specs.Asked.{is_array}
 use Rattle.cc_types.specs.Structs.{is_complete, added, completed}
 use Rattle.cc_types.specs.Interning.{interned, array_made, function_made, taking_made, const_made}
@@ -104,3 +104,30 @@ CatchingUpLists = (ss : List Shape) (es : List StructEntry) (ds : List DepthItem
 
 abbrev pub NothingIsListed : Type 0
 NothingIsListed = (es : List StructEntry) → AreListed [] es []
+
+-- a struct has a tag, or stands in no type of the table: so completing it changes no depth inside pointers and functions
+abbrev pub IsFree : List CTypeTree → List StructEntry → StructId → Type 0
+IsFree ts es id = ((entry_of es id).is_tagged ≡ true) ⊎ ((t : TypeId) → mentions id (type_at ts t) ≡ false)
+
+abbrev pub CountedThroughout : Type 0
+CountedThroughout = AreCounted [] × ((es : List StructEntry) (is_tagged : Bool) (token : ℕ) → AreCounted es → AreCounted (added es is_tagged token).0)
+    × ((ss : List Shape) (es : List StructEntry) (ds : List DepthItem) (id : StructId) (ms : List Member) → AreCounted es → AreCounted (completed ss es ds id ms))
+
+-- what is listed stays right where a struct is added or completed
+abbrev pub AddingKeepsLists : Type 0
+AddingKeepsLists = (ss : List Shape) (es : List StructEntry) (ds : List DepthItem) (is_tagged : Bool) (token : ℕ) → AreListed ss es ds → AreListed ss (added es is_tagged token).0 ds
+
+abbrev pub CompletingKeepsLists : Type 0
+CompletingKeepsLists = (ss : List Shape) (es : List StructEntry) (ds : List DepthItem) (id : StructId) (ms : List Member) → IsFree (types_of ss) es id
+    → AreListed ss es ds → AreListed ss (completed ss es ds id ms) ds
+
+-- the depth that each complete struct keeps is 1 more than that of its deepest member
+pub record AreDeep (ts : List CTypeTree) (es : List StructEntry) : Type 0 where
+  pub kept : (id : StructId) → is_complete es id ≡ true → (entry_of es id).depth ≡ struct_deep ts es (entry_of es id).members
+
+abbrev pub CompletingKeepsDepths : Type 0
+CompletingKeepsDepths = (ss : List Shape) (es : List StructEntry) (ds : List DepthItem) (id : StructId) (ms : List Member) → IsFree (types_of ss) es id
+    → IsTable ss → AreCounted es → AreListed ss es ds → AreMeasured (types_of ss) es → AreDeep (types_of ss) es → AreDeep (types_of ss) (completed ss es ds id ms)
+
+abbrev pub AddingKeepsDepths : Type 0
+AddingKeepsDepths = (ss : List Shape) (es : List StructEntry) (is_tagged : Bool) (token : ℕ) → AreMeasured (types_of ss) es → AreDeep (types_of ss) es → AreDeep (types_of ss) (added es is_tagged token).0

@@ -1,5 +1,5 @@
 //! Laws of the definitions, for the crates above: each function does nothing, and its contract is the law.
-ghost use Rattle.cc_types.specs.Laws.{SameTypesAreTold, EqualTypesHaveEqualNumbers, EqualTypesHaveEqualShapes, InterningMakes, ArraysAreMade, FunctionsAreMade, ParametersAreTaken, ConstIsAdded, NoStructsAreMeasured, AddingKeepsMeasures, CompletingKeepsMeasures, MoreTypesKeepMeasures, CompleteStructsStay, NothingIsListed, CatchingUpLists, ListedDepthsAreRight};
+ghost use Rattle.cc_types.specs.Laws.{SameTypesAreTold, EqualTypesHaveEqualNumbers, EqualTypesHaveEqualShapes, InterningMakes, ArraysAreMade, FunctionsAreMade, ParametersAreTaken, ConstIsAdded, NoStructsAreMeasured, AddingKeepsMeasures, CompletingKeepsMeasures, MoreTypesKeepMeasures, CompleteStructsStay, NothingIsListed, CatchingUpLists, ListedDepthsAreRight, CountedThroughout, AddingKeepsLists, CompletingKeepsLists, AddingKeepsDepths, CompletingKeepsDepths};
 
 /// The test of types says that they are the same, and in a table of types equal types have equal numbers and equal shapes.
 pub fn equality_laws()
@@ -32,4 +32,14 @@ pub fn depth_laws()
     ensures none { NothingIsListed }
     ensures catching_up { CatchingUpLists }
     ensures right { ListedDepthsAreRight }
+{}
+
+/// What `Depths` lists stays right where structs are added or completed, and each complete struct keeps 1 more than the
+/// depth of its deepest member. A struct without a tag has to be complete before a type of the table is made of it.
+pub fn struct_depth_laws()
+    ensures counted { CountedThroughout }
+    ensures adding_lists { AddingKeepsLists }
+    ensures completing_lists { CompletingKeepsLists }
+    ensures adding { AddingKeepsDepths }
+    ensures completing { CompletingKeepsDepths }
 {}
