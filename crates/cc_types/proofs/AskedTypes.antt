@@ -1,5 +1,5 @@
 -- What is asked of shapes is asked of their types.
-use Rattle.std.proofs.Common.{◌≡◌, refl, ap, sym, ◌∙◌, subst, ℕ, Bool, true, false, ◌&&◌, ◌||◌, not, List, [], ◌<◌, ◌+◌, nat_lt, length, arith}
+use Rattle.std.proofs.Common.{◌≡◌, refl, ap, ◌∙◌, Bool, true, ◌&&◌, ◌||◌, not, List, [], ◌<◌, length, arith}
 use Rattle.std.specs.Prelude.{Option, Some, None, IfSome, option_map}
 use Rattle.std.proofs.lemmas.Bool.{ltb-true, eqb-true, eq-eqb}
 use Rattle.cc_types.specs.CTypes as types
@@ -94,8 +94,8 @@ module _ (ss : List Shape) (table : IsTable ss) where
   pub same_asked : (a b : Shape) → IsSound (types_of ss) a → IsSound (types_of ss) b → same_shape a b ≡ same_type (built (types_of ss) a) (built (types_of ss) b)
   same_asked a b ha hb =
       one_test _ _
-          (λ h. tells _ _ (ap (built (types_of ss)) (shapes.says a b h)))
-          (λ h. shapes.tells a b (one_shape (types_of ss) table.once a b ha hb (says _ _ h)))
+      (λ h. tells _ _ (ap (built (types_of ss)) (shapes.says a b h)))
+      (λ h. shapes.tells a b (one_shape (types_of ss) table.once a b ha hb (says _ _ h)))
 
   pub unqualified_asked : (a b : Shape) → IsSound (types_of ss) a → IsSound (types_of ss) b → asked.same_unqualified a b ≡ spec.same_unqualified (built (types_of ss) a) (built (types_of ss) b)
   unqualified_asked a b ha hb =
@@ -140,8 +140,8 @@ module _ (ss : List Shape) (table : IsTable ss) where
   pub number_asked : (a b : TypeId) → a.0 < length (types_of ss) → b.0 < length (types_of ss) → asked.same_number a b ≡ same_type (type_at (types_of ss) a) (type_at (types_of ss) b)
   number_asked a b ha hb =
       one_test _ _
-          (λ h. tells _ _ (ap (type_number (types_of ss)) (eqb-true a.0 b.0 h)))
-          (λ h. eq-eqb a.0 b.0 (table.once a.0 b.0 ha hb (says _ _ h)))
+      (λ h. tells _ _ (ap (type_number (types_of ss)) (eqb-true a.0 b.0 h)))
+      (λ h. eq-eqb a.0 b.0 (table.once a.0 b.0 ha hb (says _ _ h)))
 
   length_asked : (a b : Shape) → IsSound (types_of ss) a → IsSound (types_of ss) b → asked.alike_but_length a b ≡ spec.alike_but_length (built (types_of ss) a) (built (types_of ss) b)
   length_asked (s.Array k t m) (s.Array j u n) ha hb =

@@ -1,6 +1,5 @@
 -- Adding and completing structs keeps the depths of types that are listed, and those that structs keep.
-use Rattle.std.proofs.Common.{◌≡◌, refl, ap, sym, ◌∙◌, subst, ℕ, ◌+◌, ◌-◌, ◌^◌, ◌<◌, ◌≤◌, Bool, true, false, ◌&&◌, ◌||◌, not, List, [], ◌∷◌, ◌++◌, length, get_or, arith, nat_lt, nat_eq, if◌then◌else◌, length-append, slice_set, ◌⊎◌, inl, inr}
-use Rattle.std.specs.Prelude.{Option}
+use Rattle.std.proofs.Common.{◌≡◌, refl, ap, sym, ◌∙◌, subst, ℕ, ◌+◌, ◌-◌, ◌^◌, ◌<◌, ◌≤◌, Bool, true, false, ◌&&◌, ◌||◌, not, List, [], ◌∷◌, length, get_or, arith, nat_lt, nat_eq, if◌then◌else◌, length-append, slice_set, ◌⊎◌, inl, inr}
 use Rattle.std.proofs.lemmas.Bool.{ltb-true, ltb-false, eqb-true, eqb-false}
 use Rattle.std.proofs.lemmas.List.{get_or_append_left, get_or_past, get_or-set_same, get_or-set_other, length-set}
 use Rattle.std.proofs.Math.Seq.{get_or-append_seam}
@@ -16,12 +15,12 @@ use Rattle.cc_types.specs.CTypes.{CTypeTree, void, integer_of, pointer_to, array
 use Rattle.cc_types.specs.Shapes.{type_at, types_of, IsTable}
 use Rattle.cc_types.specs.Interning.{shape_of}
 use Rattle.cc_types.specs.Measures.{entry_of, declared_entry, measure_of, joined, empty, members_from, members_measured, is_known, larger}
-use Rattle.cc_types.specs.Depths.{deeper, deepest, sunk, flat, depth_of, struct_depth, depth_in, depth_from, members_depth, deepest_from, struct_deep, item_at, mentions}
+use Rattle.cc_types.specs.Depths.{deeper, deepest, sunk, flat, depth_of, struct_depth, depth_in, depth_from, members_depth, deepest_from, struct_deep, mentions}
 use Rattle.cc_types.specs.Structs.{is_complete, added, completed, with_members}
-use Rattle.cc_types.specs.Laws.{AreMeasured, AreCounted, AreListed, ItemIs, IsFree, AreDeep}
-use Rattle.cc_types.proofs.GrowingTables.{both, stays_all}
+use Rattle.cc_types.specs.Laws.{AreMeasured, AreCounted, AreListed, IsFree, AreDeep}
+use Rattle.cc_types.proofs.GrowingTables.{both}
 use Rattle.cc_types.proofs.MadeShapes.{type_is}
-use Rattle.cc_types.proofs.MeasuredStructs.{starts, complete_within, complete_stays}
+use Rattle.cc_types.proofs.MeasuredStructs.{starts, complete_within}
 use Rattle.cc_types.proofs.ListedDepths.{depth_is, capped_within, three_ways}
 
 either_of : (a b : Bool) → (a || b) ≡ false → (a ≡ false) × (b ≡ false)
@@ -83,6 +82,7 @@ module _ (es new : List StructEntry) (id : StructId) (others : (other : StructId
       where
         made : ℕ → ℕ → Depth
         made w i = record { whole = w; inside = i }
+
         pair : (c d : Depth) → c.whole ≡ d.whole → c.inside ≡ d.inside → c ≡ d
         pair c d p q = let x : made c.whole c.inside ≡ made d.whole d.inside = ap (λ w. made w c.inside) p ∙ ap (made d.whole) q in x
 
@@ -240,6 +240,7 @@ module _ (ss : List Shape) (es : List StructEntry) (ds : List DepthItem) (id : S
       where
         agree : (other : StructId) → is_complete es other ≡ true → entry_of filled other ≡ entry_of es other
         agree other e = get_or-set_other es id.0 other.0 full (declared_entry false 0) (λ same. let h : is_complete es other ≡ is_complete es id = ap (λ i. (get_or es i (declared_entry false 0)).measure.is_complete) same in let no : true ≡ false = sym e ∙ h ∙ fresh in cc)
+
         by : (other : StructId) → is_complete filled other ≡ true → (b : Bool) → nat_eq other.0 id.0 ≡ b → (entry_of filled other).depth ≡ struct_deep ts filled (entry_of filled other).members
         by other e true q =
             let same : other.0 ≡ id.0 = eqb-true _ _ q in

@@ -1,8 +1,8 @@
 -- What interning makes.
-use Rattle.std.proofs.Common.{◌≡◌, refl, ap, sym, ◌∙◌, subst, ℕ, zero, suc, ◌+◌, ◌<◌, ◌≤◌, Bool, true, false, ◌&&◌, ◌||◌, not, List, [], ◌∷◌, ◌++◌, length, get_or, arith, nat_lt, if◌then◌else◌, length-append}
+use Rattle.std.proofs.Common.{◌≡◌, refl, ap, sym, ◌∙◌, subst, ℕ, suc, ◌+◌, ◌<◌, Bool, true, false, ◌&&◌, ◌||◌, not, List, [], ◌∷◌, length, get_or, arith, nat_lt, if◌then◌else◌, length-append}
 use Rattle.std.specs.Prelude.{Option}
 use Rattle.std.specs.List.{list_any, position_or_len}
-use Rattle.std.proofs.lemmas.Bool.{lt-ltb, ltb-true}
+use Rattle.std.proofs.lemmas.Bool.{lt-ltb}
 use Rattle.std.proofs.Math.Seq.{get_or-append_seam}
 use Rattle.indexmap.specs.IndexSet.{insert_key}
 use Rattle.cc_types.specs.CTypes as types
@@ -11,10 +11,10 @@ use Rattle.cc_types.specs.Questions as spec
 use Rattle.cc_types.specs.declared.shape.Shape.{Shape}
 use Rattle.cc_types.specs.declared.shape.Shape.TheVariants as s
 use Rattle.cc_types.specs.declared.shape.TypeId.{TypeId}
-use Rattle.cc_types.specs.Shapes.{type_at, built, is_bare, is_function_number, is_sound, IsSound, types_of, IsTable, Extends}
-use Rattle.cc_types.specs.Interning.{same_shape, is_const, is_function, with_const, shape_of, is_bare_in, is_function_in, is_made, made_or_void, numbered, interned, interned_at, array_made, function_made, taking_made, const_made}
+use Rattle.cc_types.specs.Shapes.{type_at, built, is_bare, is_function_number, is_sound, IsSound, types_of, IsTable}
+use Rattle.cc_types.specs.Interning.{same_shape, is_const, with_const, shape_of, is_bare_in, is_function_in, is_made, made_or_void, numbered, interned, interned_at, array_made, function_made, taking_made, const_made}
 use Rattle.cc_types.specs.Laws.{Makes}
-use Rattle.cc_types.proofs.GrowingTables.{Table, insert_table, extends_on, built_stays, function_stays, length_from, and_both}
+use Rattle.cc_types.proofs.GrowingTables.{insert_table, extends_on, built_stays, function_stays, length_from, and_both}
 use Rattle.cc_types.proofs.MadeShapes.{const_of, function_of, type_is, shape_sound}
 use Rattle.cc_types.proofs.AskedTypes.{const_type, const_sound, two_tests}
 use Rattle.cc_types.proofs.ShapeEquality.{says, tells}
@@ -134,7 +134,7 @@ module _ (ss : List Shape) (table : IsTable ss) where
   array_makes t n =
       let m = const_makes false t in
       made_on t (s.Array (is_const (shape_of ss t)) (bare t).1 n) _ (bare_stands t)
-          (ap (λ x. array_of (is_const (shape_of ss t)) x n) m.is ∙ ap (λ k. array_of k (types.with_const false (type_at (types_of ss) t)) n) (const_is t))
+      (ap (λ x. array_of (is_const (shape_of ss t)) x n) m.is ∙ ap (λ k. array_of k (types.with_const false (type_at (types_of ss) t)) n) (const_is t))
 
   pub function_makes : (t : TypeId) → Makes ss (function_made ss t) (function_to (type_at (types_of ss) t))
   function_makes t = made_on t (s.Function (bare t).1) _ (bare_stands t) (ap returning (const_makes false t).is)
@@ -145,7 +145,7 @@ module _ (ss : List Shape) (table : IsTable ss) where
       let there : is_function_number (types_of ss) f ≡ true = and_both _ _ (lt-ltb _ _ (omega (arith, less, length_from [] ss))) e in
       let stays : type_at (types_of (bare t).0) f ≡ type_at (types_of ss) f = m.extends.same f.0 (omega (arith, less, length_from [] ss)) in
       made_on t (s.Takes (bare t).1 f) _ (and_both _ _ (bare_stands t) (function_stays (types_of ss) (types_of (bare t).0) m.extends f there))
-          (ap (λ x. taking x (type_at (types_of (bare t).0) f)) m.is ∙ ap (taking (types.with_const false (type_at (types_of ss) t))) stays)
+      (ap (λ x. taking x (type_at (types_of (bare t).0) f)) m.is ∙ ap (taking (types.with_const false (type_at (types_of ss) t))) stays)
 
   pub const_added : (k : Bool) (t : TypeId) → Makes ss (const_made ss k t) (spec.also_const k (type_at (types_of ss) t))
   const_added k t = subst (λ b. Makes ss (const_made ss k t) (types.with_const (k || b) (type_at (types_of ss) t))) (const_is t) (const_makes (k || is_const (shape_of ss t)) t)

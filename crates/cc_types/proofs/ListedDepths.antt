@@ -1,5 +1,5 @@
 -- The depths that are listed are those of the types.
-use Rattle.std.proofs.Common.{◌≡◌, refl, ap, sym, ◌∙◌, subst, ℕ, zero, suc, ◌+◌, ◌-◌, ◌^◌, ◌<◌, ◌≤◌, min, Bool, true, false, ◌&&◌, List, [], ◌∷◌, ◌++◌, length, get_or, take, drop, arith, nat_lt, if◌then◌else◌, length-append, ◌⊎◌, inl, inr}
+use Rattle.std.proofs.Common.{◌≡◌, refl, ap, sym, ◌∙◌, subst, ℕ, ◌+◌, ◌-◌, ◌^◌, ◌<◌, ◌≤◌, min, Bool, true, false, List, [], ◌∷◌, ◌++◌, length, get_or, take, drop, arith, nat_lt, if◌then◌else◌, length-append, ◌⊎◌, inl, inr}
 use Rattle.std.proofs.lemmas.Bool.{ltb-true, ltb-false}
 use Rattle.std.proofs.lemmas.List.{get_or_append_left, get_or_past, append-nil, append_assoc, take-append-drop}
 use Rattle.std.proofs.Math.Seq.{get_or-append_seam}
@@ -200,10 +200,10 @@ lists_rest ss es ds (a ∷ rest) h all =
     let one = lists_one ss es ds all a (rest_sound [] ss a rest h) in
     let same : (ss ++ a ∷ []) ++ rest ≡ ss ++ a ∷ rest = append_assoc ss (a ∷ []) rest in
     subst (λ x. AreListed x es (listed es (ds ++ item_in es ds a ∷ []) rest)) same
-        (lists_rest (ss ++ a ∷ []) es (ds ++ item_in es ds a ∷ []) rest (subst (λ x. are_sound [] x ≡ true) (sym same) h) one)
+    (lists_rest (ss ++ a ∷ []) es (ds ++ item_in es ds a ∷ []) rest (subst (λ x. are_sound [] x ≡ true) (sym same) h) one)
 
 pub catches_up : (ss : List Shape) (es : List StructEntry) (ds : List DepthItem) → IsTable ss → AreListed (take (length ds) ss) es ds → AreListed ss es (caught_up ss es ds)
 catches_up ss es ds table all =
     let whole : take (length ds) ss ++ drop (length ds) ss ≡ ss = take-append-drop (length ds) ss in
     subst (λ x. AreListed x es (caught_up ss es ds)) whole
-        (lists_rest (take (length ds) ss) es ds (drop (length ds) ss) (subst (λ x. are_sound [] x ≡ true) (sym whole) table.sound) all)
+    (lists_rest (take (length ds) ss) es ds (drop (length ds) ss) (subst (λ x. are_sound [] x ≡ true) (sym whole) table.sound) all)

@@ -1,5 +1,5 @@
 -- Shapes that are made of what is there.
-use Rattle.std.proofs.Common.{◌≡◌, refl, ap, sym, ◌∙◌, subst, ℕ, ◌+◌, ◌<◌, ◌≤◌, Bool, true, false, ◌&&◌, not, List, [], ◌∷◌, length, get_or, arith, nat_lt, if◌then◌else◌}
+use Rattle.std.proofs.Common.{◌≡◌, refl, ap, sym, ◌∙◌, subst, ℕ, ◌<◌, ◌≤◌, Bool, true, false, not, List, [], length, arith, nat_lt, if◌then◌else◌}
 use Rattle.std.specs.Prelude.{Result, IfOk, OnErr}
 use Rattle.std.proofs.lemmas.Bool.{ltb-true, ltb-false}
 use Rattle.std.proofs.lemmas.List.{get_or_past}
@@ -9,9 +9,9 @@ use Rattle.cc_types.specs.CTypes.{CTypeTree, void}
 use Rattle.cc_types.specs.declared.shape.Shape.{Shape}
 use Rattle.cc_types.specs.declared.shape.Shape.TheVariants as s
 use Rattle.cc_types.specs.declared.shape.TypeId.{TypeId}
-use Rattle.cc_types.specs.Shapes.{type_at, built, is_bare, is_function_number, is_sound, IsSound, types_of, are_sound, IsTable}
+use Rattle.cc_types.specs.Shapes.{type_at, built, is_bare, is_function_number, is_sound, IsSound, types_of, IsTable}
 use Rattle.cc_types.specs.Interning.{same_shape, is_const, is_function, shape_of, is_bare_in, is_function_in, is_made, made_or_void}
-use Rattle.cc_types.proofs.GrowingTables.{Table, after, shape_at, length_from, both, and_both}
+use Rattle.cc_types.proofs.GrowingTables.{after, shape_at, length_from, both, and_both}
 use Rattle.cc_types.proofs.ShapeEquality.{tells}
 
 -- what is asked of a shape is asked of its type

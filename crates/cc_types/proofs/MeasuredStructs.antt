@@ -1,6 +1,5 @@
 -- What structs keep is what their members measure.
-use Rattle.std.proofs.Common.{◌≡◌, refl, ap, sym, ◌∙◌, subst, ℕ, ◌+◌, ◌<◌, ◌≤◌, Bool, true, false, ◌&&◌, not, List, [], ◌∷◌, ◌++◌, length, get_or, arith, nat_lt, nat_eq, if◌then◌else◌, length-append, slice_set}
-use Rattle.std.specs.Prelude.{Option}
+use Rattle.std.proofs.Common.{◌≡◌, refl, ap, sym, ◌∙◌, ℕ, ◌+◌, ◌<◌, Bool, true, false, ◌&&◌, not, List, [], ◌∷◌, length, get_or, arith, nat_lt, nat_eq, if◌then◌else◌, length-append, slice_set}
 use Rattle.std.proofs.lemmas.Bool.{ltb-true, ltb-false, eqb-true, eqb-false}
 use Rattle.std.proofs.lemmas.List.{get_or_append_left, get_or_past, get_or-set_same, get_or-set_other, length-set}
 use Rattle.std.proofs.Math.Seq.{get_or-append_seam}
@@ -15,7 +14,7 @@ use Rattle.cc_types.specs.declared.depth.DepthItem.{DepthItem}
 use Rattle.cc_types.specs.Depths.{members_depth}
 use Rattle.cc_types.specs.Shapes.{type_at, types_of, Extends}
 use Rattle.cc_types.specs.Measures.{entry_of, declared_entry, measure_of, arrayed, joined, ended, empty, members_from, members_measured, is_known}
-use Rattle.cc_types.specs.Structs.{is_complete, added, completed, completed_by, with_members, struct_number}
+use Rattle.cc_types.specs.Structs.{is_complete, added, completed, with_members}
 use Rattle.cc_types.specs.Laws.{AreMeasured}
 use Rattle.cc_types.proofs.GrowingTables.{both, stays_all}
 
@@ -56,7 +55,7 @@ module _ (ts us : List CTypeTree) (es new : List StructEntry) (more : Extends ts
       let one = joined s (has_const t) (measure_of es t) in
       let whole : (measure_of es t).is_complete ≡ true = (both s.is_complete (measure_of es t).is_complete (starts ts es one ms e)).1 in
       let same : joined s (has_const (type_at us m.kind)) (measure_of new (type_at us m.kind)) ≡ one =
-          ap (λ x. joined s (has_const x) (measure_of new x)) (type_stays m.kind whole) ∙ ap (joined s (has_const t)) (measure_stays t whole) in
+      ap (λ x. joined s (has_const x) (measure_of new x)) (type_stays m.kind whole) ∙ ap (joined s (has_const t)) (measure_stays t whole) in
       ap (λ x. members_from us new x ms) same ∙ from_stays one ms e
 
   measured_stays : (ms : List Member) → (members_measured ts es ms).is_complete ≡ true → members_measured us new ms ≡ members_measured ts es ms
@@ -139,6 +138,7 @@ module _ (ss : List Shape) (es : List StructEntry) (ds : List DepthItem) (id : S
           let less : id.0 < length es = omega (arith, within, same, length-set es id.0 full) in
           let is : entry_of filled other ≡ full = ap (λ i. get_or filled i (declared_entry false 0)) same ∙ get_or-set_same es id.0 full (declared_entry false 0) less in
           ap (λ x. x.measure) is ∙ sym (measured_stays ts ts es filled (stays_all ts) (stays_filled fresh) ms whole) ∙ sym (ap (λ x. members_measured ts filled x.members) is)
+
       by : (other : StructId) → is_complete filled other ≡ true → (b : Bool) → nat_eq other.0 id.0 ≡ b → (entry_of filled other).measure ≡ members_measured ts filled (entry_of filled other).members
       by other e true q = at_id other e (eqb-true _ _ q)
       by other e false q =

@@ -1,10 +1,10 @@
 -- The test of types tells which are the same.
-use Rattle.std.proofs.Common.{◌≡◌, refl, ap, ℕ, Bool, true, false, ◌&&◌, not, nat_eq, rules}
+use Rattle.std.proofs.Common.{◌≡◌, refl, ap, ℕ, Bool, true, false, ◌&&◌, nat_eq, rules}
 use Rattle.std.specs.Prelude.{Option, Some, None}
 use Rattle.std.proofs.lemmas.Bool.{eqb-true, eq-eqb}
 use Rattle.cc_arith.specs.declared.kind.IntKind.{IntKind}
 use Rattle.cc_arith.specs.contracts.kind.IntKind.{the_type}
-use denote.Enum.Bare.{sameb, same_true, true_same}
+use denote.Enum.Bare.{same_true, true_same}
 use Rattle.cc_tree.specs.declared.ids.StructId.{StructId}
 use Rattle.cc_types.specs.CTypes.{CTypeTree, void, integer_of, pointer_to, array_of, returning, taking, struct_by}
 use Rattle.cc_types.specs.SameTypes.{same_flag, same_kind, same_length, same_type}

@@ -1,5 +1,5 @@
 -- What is asked of shapes and of numbers, as a table of types answers it.
-use Rattle.std.specs.Prelude.{Bool, true, false, not, ◌&&◌, ◌||◌, ℕ, nat_eq, List, Option, Some, None, if◌then◌else◌}
+use Rattle.std.specs.Prelude.{Bool, true, false, not, ◌&&◌, ◌||◌, nat_eq, List, Option, Some, None, if◌then◌else◌}
 use Rattle.cc_types.specs.declared.shape.Shape.{Shape}
 use Rattle.cc_types.specs.declared.shape.Shape.TheVariants as s
 use Rattle.cc_types.specs.declared.shape.TypeId.{TypeId}
@@ -7,7 +7,7 @@ use Rattle.cc_types.specs.declared.expr_type.ExprType.{ExprType}
 use Rattle.cc_types.specs.declared.expr_type.ExprType.TheVariants.{Plain, Address}
 use Rattle.cc_types.specs.Shapes.{types_of}
 use Rattle.cc_types.specs.ExprTypes.{expr_type}
-use Rattle.cc_types.specs.Interning.{same_shape, is_const, with_const, shape_of, numbered}
+use Rattle.cc_types.specs.Interning.{same_shape, is_const, with_const, shape_of}
 use Rattle.cc_types.specs.SameTypes.{same_flag}
 use Rattle.cc_types.specs.Questions as types
 

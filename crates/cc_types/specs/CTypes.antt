@@ -1,5 +1,5 @@
 -- The types of C as plain trees (C17 6.2.5). A first field of each says whether the type is const.
-use Rattle.std.specs.Prelude.{ℕ, Bool, true, false, not, ◌&&◌, Option, Some, None}
+use Rattle.std.specs.Prelude.{ℕ, Bool, true, false, Option}
 use Rattle.cc_arith.specs.declared.kind.IntKind.{IntKind}
 use Rattle.cc_tree.specs.declared.ids.StructId.{StructId}
 

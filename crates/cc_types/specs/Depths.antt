@@ -1,5 +1,5 @@
 -- How deep types are.
-use Rattle.std.specs.Prelude.{ℕ, ◌+◌, nat_eq, Bool, true, false, ◌||◌, if◌then◌else◌, List, [], ◌∷◌, ◌++◌, length, drop, slice_index_or}
+use Rattle.std.specs.Prelude.{ℕ, ◌+◌, nat_eq, Bool, false, ◌||◌, if◌then◌else◌, List, [], ◌∷◌, ◌++◌, length, drop, slice_index_or}
 use Rattle.cc_tree.specs.declared.ids.StructId.{StructId}
 use Rattle.cc_types.specs.declared.depth.Depth.{Depth}
 use Rattle.cc_types.specs.declared.depth.DepthItem.{DepthItem}

@@ -1,7 +1,6 @@
 -- How much room types take: cells, bytes, and what else is measured of them from their parts.
 use Rattle.std.specs.Prelude.{ℕ, ◌+◌, ◌-◌, ◌*◌, ◌%◌, ◌^◌, min, nat_lt, nat_le, Bool, true, false, ◌&&◌, ◌||◌, if◌then◌else◌, List, [], ◌∷◌, Option, Some, None, slice_index_or}
 use Rattle.cc_arith.specs.declared.kind.IntKind.{IntKind}
-use Rattle.cc_arith.specs.Kinds.{width_of}
 use Rattle.cc_arith.specs.declared.kind.IntKind.TheVariants.{Bool as BoolKind, Char, SChar, UChar, Short, UShort, Int, UInt, Long, ULong, LLong, ULLong}
 use Rattle.cc_tree.specs.declared.ids.StructId.{StructId}
 use Rattle.cc_types.specs.declared.measure.Measure.{Measure}

@@ -2,7 +2,7 @@
 use Rattle.std.specs.Prelude.{Bool, true, false, not, ◌&&◌, ◌||◌, ℕ, Option, Some, None, option_map}
 use Rattle.cc_arith.specs.declared.kind.IntKind.{IntKind}
 use Rattle.cc_arith.specs.Promotions.{promoted, common_of}
-use Rattle.cc_types.specs.CTypes.{CTypeTree, void, integer_of, pointer_to, array_of, returning, taking, struct_by, has_const, with_const, is_array}
+use Rattle.cc_types.specs.CTypes.{CTypeTree, void, integer_of, pointer_to, array_of, returning, taking, has_const, with_const, is_array}
 use Rattle.cc_types.specs.SameTypes.{same_type, same_flag}
 
 -- The type of the value of an expression of this type (C17 6.3.2.1): an array becomes a pointer to its first element, which

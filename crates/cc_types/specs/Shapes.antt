@@ -1,6 +1,5 @@
 -- Which types the shapes of a table stand for.
-use Rattle.std.specs.Prelude.{ℕ, ◌+◌, ◌<◌, ◌≤◌, ◌≡◌, Bool, true, false, not, ◌&&◌, nat_lt, List, [], ◌∷◌, ◌++◌, length, slice_index_or}
-use Rattle.cc_arith.specs.declared.kind.IntKind.{IntKind}
+use Rattle.std.specs.Prelude.{ℕ, ◌<◌, ◌≤◌, ◌≡◌, Bool, true, false, not, ◌&&◌, nat_lt, List, [], ◌∷◌, ◌++◌, length, slice_index_or}
 use Rattle.cc_types.specs.CTypes.{CTypeTree, void, integer_of, pointer_to, array_of, returning, taking, struct_by, has_const, is_function}
 use Rattle.cc_types.specs.declared.shape.Shape.{Shape}
 use Rattle.cc_types.specs.declared.shape.Shape.TheVariants as s

@@ -26,10 +26,6 @@ impl TypeTable {
             ≡ spec.composed (type_at (types_of self.now) a) (type_at (types_of self.now) b) }
     {
         self.stands();
-        if self.shape(a).wants_length() {
-            b
-        } else {
-            a
-        }
+        if self.shape(a).wants_length() { b } else { a }
     }
 }

@@ -110,7 +110,12 @@ impl Depths {
     }
 
     // A struct with these members.
-    pub(crate) fn of_members(&self, table: &TypeTable, structs: &Structs, members: &[Member]) -> Depth
+    pub(crate) fn of_members(
+        &self,
+        table: &TypeTable,
+        structs: &Structs,
+        members: &[Member],
+    ) -> Depth
         ensures { result ≡ spec.members_depth table.now structs.now self.now members.now }
     {
         let mut depth = Depth::flat(0);

@@ -12,6 +12,8 @@ mod questions;
 mod shape;
 mod structs;
 mod table;
+#[cfg(test)]
+mod tests;
 
 pub use depth::{Depth, DepthItem};
 pub use depths::Depths;

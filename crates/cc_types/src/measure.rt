@@ -50,11 +50,7 @@ fn padded(n: u64, alignment: u64) -> u64
 pub(crate) fn larger(a: u64, b: u64) -> u64
     ensures { result ≡ spec.larger a b }
 {
-    if a < b {
-        b
-    } else {
-        a
-    }
+    if a < b { b } else { a }
 }
 
 impl Measure {

@@ -24,7 +24,9 @@ impl TypeTable {
     {
         match t {
             ExprType::Address(a) => ExprType::Address(a),
-            ExprType::Plain(Shape::Array(k, id, _)) => ExprType::Address(self.shape(id).with_const(k)),
+            ExprType::Plain(Shape::Array(k, id, _)) => ExprType::Address(
+                self.shape(id).with_const(k),
+            ),
             ExprType::Plain(Shape::Function(id)) => ExprType::Address(Shape::Function(id)),
             ExprType::Plain(Shape::Takes(id, rest)) => ExprType::Address(Shape::Takes(id, rest)),
             ExprType::Plain(a) => ExprType::Plain(a.with_const(false)),
@@ -92,7 +94,10 @@ impl TypeTable {
     pub fn is_pointer(&self, t: ExprType) -> bool
         ensures { result ≡ spec.is_pointer (expr_type (types_of self.now) t) }
     {
-        matches!(t, ExprType::Address(_) | ExprType::Plain(Shape::Pointer(_, _)))
+        matches!(
+            t,
+            ExprType::Address(_) | ExprType::Plain(Shape::Pointer(_, _))
+        )
     }
 
     /// Whether a type is an integer or a pointer type (C17 6.2.5, paragraph 21).

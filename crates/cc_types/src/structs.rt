@@ -198,7 +198,13 @@ impl Structs {
     /// type of a member isn't complete.
     ///
     /// The depth that it keeps comes from `depths`, which is to have caught up with the table.
-    pub fn complete(&mut self, table: &TypeTable, depths: &Depths, id: StructId, members: MemberList)
+    pub fn complete(
+        &mut self,
+        table: &TypeTable,
+        depths: &Depths,
+        id: StructId,
+        members: MemberList,
+    )
         ensures { self.new ≡ spec.completed table.now self.old depths.now id members }
     {
         let measure = self.members_measured(table, members.as_slice());

@@ -1,4 +1,4 @@
-use Rattle.std.proofs.Common.{length, [], arith}
+use Rattle.std.proofs.Common.{[], arith}
 use Rattle.std.proofs.lemmas.Bool.{lt-ltb}
 use Rattle.cc_types.proofs.TypeEquality.{says, tells}
 use Rattle.cc_types.proofs.GrowingTables.{id_is, one_shape, length_from}

@@ -1,4 +1,4 @@
-use Rattle.std.proofs.Common.{◌≡◌, drop, length}
+use Rattle.std.proofs.Common.{◌≡◌, drop}
 use Rattle.cc_types.specs.Depths.{listed, caught_up}
 use Rattle.cc_types.proofs.depths.Depths.catch_up.Given as goal
 

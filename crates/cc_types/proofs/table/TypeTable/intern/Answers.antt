@@ -10,4 +10,4 @@ invariant_of-self-2 c =
     let a = c.made_or_void-shape.result in
     let is : a ≡ made_or_void keys c.args.shape = c.made_or_void-shape.ensures ∙ ap (λ ss. made_or_void ss c.args.shape) (sym c.self.view_is) in
     inserted keys c.self.invariant c.insert_full.new.self.keys a c.insert_full.result c.insert_full.ensures.keys c.insert_full.ensures.err
-        (subst (IsSound (types_of keys)) (sym is) (made_sound keys c.self.invariant c.args.shape))
+    (subst (IsSound (types_of keys)) (sym is) (made_sound keys c.self.invariant c.args.shape))

@@ -1,4 +1,4 @@
-use Rattle.std.proofs.Common.{◌≡◌, false, true, ap, sym, subst, ◌∙◌, slice_index_or, arith, length}
+use Rattle.std.proofs.Common.{◌≡◌, false, ap, sym, subst, ◌∙◌, slice_index_or, arith, length}
 use Rattle.cc_types.specs.declared.shape.Shape.TheVariants as s
 use Rattle.cc_types.specs.Shapes.{built, types_of, IsSound, IsTable}
 use Rattle.cc_types.proofs.MadeShapes.{type_is, shape_sound, void_past}
