@@ -1,8 +1,8 @@
 // The types of a few declarations, worked out by hand.
-use super::*;
 use cc_arith::IntKind;
 use cc_base::{List, Memory, Text};
 use cc_tree::StructId;
+use cc_types::{Depths, ExprType, Member, MemberList, Shape, Structs, TypeId, TypeTable};
 use std::alloc::Global;
 use std::test::Fail;
 
@@ -111,31 +111,34 @@ struct World {
     depths: Depths,
 }
 
-fn put_member(
-    alloc: Global,
-    members: &mut MemberList,
-    name: &str,
-    kind: TypeId,
-) -> Result<(), Memory> {
+fn member(alloc: Global, name: &str, kind: TypeId) -> Result<Member, Memory> {
     let name = Text::new(String::from_str(alloc, name)?);
-    members.push(Member { name, kind })
+    Ok(Member { name, kind })
 }
 
-// `struct node { char c; int n; struct node *next; }`
-fn node(alloc: Global, world: &mut World) -> Result<StructId, Memory> {
+fn two(alloc: Global, first: Member, second: Member) -> Result<MemberList, Memory> {
+    let mut members = List::new(alloc);
+    members.push(first)?;
+    members.push(second)?;
+    Ok(members)
+}
+
+// The types of the members of `struct node { int n; struct node *next; }`, with the struct itself.
+fn kinds(alloc: Global, world: &mut World) -> Result<(StructId, TypeId, TypeId), Memory> {
     let id = world.structs.add(alloc, true, 7)?;
     let itself = world.table.intern(Shape::Struct(false, id))?;
     let next = world.table.intern(Shape::Pointer(false, itself))?;
-    let char = world.table.intern(CHAR)?;
     let int = world.table.intern(INT)?;
-    let mut members = List::new(alloc);
-    put_member(alloc, &mut members, "c", char)?;
-    put_member(alloc, &mut members, "n", int)?;
-    put_member(alloc, &mut members, "next", next)?;
     world.depths.catch_up(&world.table, &world.structs)?;
-    world
-        .structs
-        .complete(&world.table, &world.depths, id, members);
+    Ok((id, int, next))
+}
+
+fn node(alloc: Global, world: &mut World) -> Result<StructId, Memory> {
+    let (id, int, next) = kinds(alloc, world)?;
+    let first = member(alloc, "n", int)?;
+    let second = member(alloc, "next", next)?;
+    let members = two(alloc, first, second)?;
+    world.structs.complete(&world.table, &world.depths, id, members);
     Ok(id)
 }
 
@@ -147,7 +150,7 @@ fn new_world(alloc: Global) -> World {
     }
 }
 
-// Three cells, `n` at 4 and `next` at 8; an array of two has twice as much.
+// Two cells, `n` at 0 and `next` at 8; an array of two has twice as much.
 fn nodes_are_measured(alloc: Global) -> Result<bool, Memory> {
     let mut world = new_world(alloc);
     let id = node(alloc, &mut world)?;
@@ -155,11 +158,11 @@ fn nodes_are_measured(alloc: Global) -> Result<bool, Memory> {
         .structs
         .measure(&world.table, Shape::Struct(false, id));
     let kind = world.table.intern(Shape::Struct(false, id))?;
-    let two = world
+    let both = world
         .structs
         .measure(&world.table, Shape::Array(false, kind, Some(2)));
-    let is_one = one.is_complete && one.cells == 3 && one.size == 16 && one.alignment == 8;
-    Ok(is_one && two.cells == 6 && two.size == 32 && !one.has_const_part)
+    let is_one = one.is_complete && one.cells == 2 && one.size == 16 && one.alignment == 8;
+    Ok(is_one && both.cells == 4 && both.size == 32 && !one.has_const_part)
 }
 
 fn nodes_have_members(alloc: Global) -> Result<bool, Memory> {
@@ -168,11 +171,11 @@ fn nodes_have_members(alloc: Global) -> Result<bool, Memory> {
     let (structs, table) = (&world.structs, &world.table);
     let is_known = structs.is_complete(id) && structs.is_tagged(id) && structs.token(id) == 7;
     let named = match structs.member(id, "n") {
-        Some((place, kind)) => place == 1 && table.shape(kind) == INT,
+        Some((place, kind)) => place == 0 && table.shape(kind) == INT,
         None => false,
     };
     let t = plain(Shape::Struct(false, id));
-    Ok(is_known && named && structs.members(id).len() == 3 && table.fits(structs, t, false, t))
+    Ok(is_known && named && structs.members(id).len() == 2 && table.fits(structs, t, false, t))
 }
 
 // The pointer to the struct, which has a tag, is 2 deep, so the struct is 3; an array of it 4.
