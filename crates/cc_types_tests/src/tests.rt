@@ -138,7 +138,9 @@ fn node(alloc: Global, world: &mut World) -> Result<StructId, Memory> {
     let first = member(alloc, "n", int)?;
     let second = member(alloc, "next", next)?;
     let members = two(alloc, first, second)?;
-    world.structs.complete(&world.table, &world.depths, id, members);
+    world
+        .structs
+        .complete(&world.table, &world.depths, id, members);
     Ok(id)
 }
 
