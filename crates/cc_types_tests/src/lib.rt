@@ -1,0 +1,5 @@
+//! Tests of `cc_types`, apart from it so that it is proved once.
+#![tactic(auto)]
+
+#[cfg(test)]
+mod tests;
