@@ -8,7 +8,8 @@ pub fn equality_laws()
     ensures shapes { EqualTypesHaveEqualShapes }
 {}
 
-/// A table of types only grows, and each call that makes a type gives the number of the type that it is to make.
+/// After an answer the types that a table had have their numbers still, and each call that makes a type gives the number
+/// of the type that it is to make. A function takes one parameter more only where it is a function.
 pub fn making_laws()
     ensures interning { InterningMakes }
     ensures arrays { ArraysAreMade }
@@ -18,7 +19,7 @@ pub fn making_laws()
 {}
 
 /// What each complete struct keeps is what its members measure, from no structs on over all calls that change structs or
-/// the table of types; and a complete struct stays as it is.
+/// the table of types; and completing another struct leaves a complete one as it is.
 pub fn struct_laws()
     ensures none { NoStructsAreMeasured }
     ensures adding { AddingKeepsMeasures }
@@ -27,15 +28,17 @@ pub fn struct_laws()
     ensures stay { CompleteStructsStay }
 {}
 
-/// Once `Depths` has caught up with the table, it gives the depth of each type whose parts are in the table.
+/// From nothing listed on, catching up with the table lists the depths of its types, where what was listed before are the
+/// depths of the first of them; and what is listed so is the depth of each type whose parts are in the table.
 pub fn depth_laws()
     ensures none { NothingIsListed }
     ensures catching_up { CatchingUpLists }
     ensures right { ListedDepthsAreRight }
 {}
 
-/// What `Depths` lists stays right where structs are added or completed, and each complete struct keeps 1 more than the
-/// depth of its deepest member. A struct without a tag has to be complete before a type of the table is made of it.
+/// What `Depths` lists stays right where structs are added or completed, and then each complete struct goes on to keep 1
+/// more than the depth of its deepest member. A struct without a tag has to be complete before a type of the table is made
+/// of it. No law says the same of calls that make the table grow.
 pub fn struct_depth_laws()
     ensures counted { CountedThroughout }
     ensures adding_lists { AddingKeepsLists }

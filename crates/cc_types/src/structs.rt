@@ -37,7 +37,9 @@ pub struct StructEntry {
     pub depth: Depth,
 }
 
-/// The structs so far, by number.
+/// The structs so far, by number. Each call of `add` makes one more, so that a struct without a tag is the same type as an
+/// earlier one with the same members is for the caller to see; and whether a struct is complete is said once for all, so a
+/// value of this type serves one file.
 #[derive(Drop)]
 pub struct Structs {
     entries: Vec<StructEntry>,
@@ -138,7 +140,7 @@ impl Structs {
         }
     }
 
-    /// The members of a struct, in order; none where it isn't complete.
+    /// The members of a struct, in order.
     pub fn members(&self, id: StructId) -> &[Member]
         ensures { result.now ≡ (measures.entry_of self.now id).members }
     {

@@ -115,7 +115,8 @@ impl TypeTable {
     }
 
     /// The type of this shape, which is in the table from then on. It is void where what the shape is made of isn't in
-    /// the table, or where elements, a result or a parameter are const: `array`, `function` and `takes` see to that.
+    /// the table, where elements, a result or a parameter are const (`array`, `function` and `taking` see to that), or
+    /// where what is to take a parameter more is no function.
     pub fn intern(&mut self, shape: Shape) -> Result<TypeId, Memory>
         ensures { IfOk result (λ id. (self.new, id) ≡ spec.interned self.old shape) }
     {
@@ -154,7 +155,7 @@ impl TypeTable {
     }
 
     /// The type of functions with this parameter before those of another function type (C17 6.7.6.3); its const says
-    /// nothing.
+    /// nothing. An array or a function is no parameter's type: the caller adjusts it first.
     pub fn taking(&mut self, parameter: TypeId, function: TypeId) -> Result<TypeId, Memory>
         ensures { IfOk result (λ id. (self.new, id) ≡ spec.taking_made self.old parameter function) }
     {
