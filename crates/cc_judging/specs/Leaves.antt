@@ -7,6 +7,7 @@ use Rattle.cc_symbols.specs.declared.declared.Form.TheVariants as form
 use Rattle.cc_types.specs.declared.shape.Shape.{Shape}
 use Rattle.cc_types.specs.declared.shape.Shape.TheVariants.{Array}
 use Rattle.cc_types.specs.declared.shape.TypeId.{TypeId}
+use Rattle.cc_types.specs.declared.expr_type.ExprType.{ExprType}
 use Rattle.cc_types.specs.declared.expr_type.ExprType.TheVariants.{Plain}
 use Rattle.cc_types.specs.Interning.{numbered, shape_of}
 use Rattle.cc_judging.specs.declared.judged.Judged.{Judged}
@@ -31,3 +32,8 @@ name_judged ss None = Untyped
 -- a string literal is an array of `char`, which is the first type of a table (6.4.5, paragraph 6)
 abbrev pub string_judged : ℕ → Judged
 string_judged n = Typed (Plain (Array false (numbered 0) (Some n)))
+
+-- parentheses
+abbrev pub paren_judged : Option ExprType → Judged
+paren_judged (Some t) = Typed t
+paren_judged None = Untyped

@@ -8,6 +8,7 @@ use cc_arith::IntKind;
 use cc_symbols::{Declared, Form};
 use cc_types::{ExprType, Shape, TypeId, TypeTable};
 
+// `char`, the first type of the table.
 const CHAR: TypeId = TypeId(0);
 
 /// A name that names this declaration (C17 6.5.1, paragraph 2). Without one it is untyped: it broke C35.
@@ -52,4 +53,14 @@ pub fn string(length: u64) -> Judged
     ensures { result ≡ spec.string_judged length }
 {
     Judged::Typed(ExprType::Plain(Shape::Array(false, CHAR, Some(length))))
+}
+
+/// An expression in parentheses (C17 6.5.1, paragraph 5).
+pub fn paren(t: Option<ExprType>) -> Judged
+    ensures { result ≡ spec.paren_judged t }
+{
+    match t {
+        Some(t) => Judged::Typed(t),
+        None => Judged::Untyped,
+    }
 }

@@ -22,6 +22,6 @@ pub use calls::{Passing, call, called, parameter, pass_one};
 pub use casts::{cast, size_of};
 pub use choices::{choice, comma};
 pub use judged::{Judged, Part};
-pub use leaves::{integer, name, string};
+pub use leaves::{integer, name, paren, string};
 pub use members::{Selection, arrow, index, member};
 pub use prefix::unary;
