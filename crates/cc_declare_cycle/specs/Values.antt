@@ -5,8 +5,7 @@ use Rattle.cc_tree.specs.Trees.{ExprTree}
 use Rattle.cc_tree_notes.specs.declared.note.Counted.{Counted}
 use Rattle.cc_tree_walks.specs.Notes.{expr_note}
 use Rattle.cc_types.specs.declared.expr_type.ExprType.{ExprType}
-use Rattle.cc_typing.specs.Typing.{type_of}
-use Rattle.cc_typing.specs.Noting.{noted}
+use Rattle.cc_typing.specs.Typing.{type_of, noted}
 use Rattle.cc_declare.specs.declared.checker.Checker.{Checker}
 use Rattle.cc_declare.specs.declared.enumerators.ConstantValue.{ConstantValue}
 use Rattle.cc_declare.specs.declared.enumerators.ConstantValue.TheVariants as v
