@@ -9,3 +9,4 @@ pub mod ListedDepths
 pub mod DeepStructs
 pub mod NumberedTexts
 pub mod ReadLists
+pub mod AdjustedTypes
