@@ -65,21 +65,28 @@ abbrev pub array_of_made : Checker → Counted → ConstantValue → Bool → Sh
 array_of_made s n c may_lack d t =
     array_in s n c may_lack (elements_judged s n (shape_of s.symbols.types t) d) (interning.array_made s.symbols.types t (length_of c))
 
-abbrev pub untyped_array : Checker → Counted → Shaped → TypeId → Checker × Shaped
-untyped_array s n d t = (s, with_kind (faulted_if d (is_no_object s (shape_of s.symbols.types t)) n rule.object_type) None)
-
 abbrev pub array_at : Checker → Counted → ConstantValue → Bool → Shaped → Option TypeId → Checker × Shaped
-array_at s n v.Untyped may_lack d t = (s, unjudged d)
-array_at s n v.NoConstant may_lack d None = (s, d)
-array_at s n v.NoConstant may_lack d (Some t) = untyped_array s n d t
-array_at s n v.Missing may_lack d None = (s, d)
-array_at s n v.Missing may_lack d (Some t) = array_of_made s n v.Missing may_lack d t
-array_at s n (v.Is m) may_lack d None = (s, d)
-array_at s n (v.Is m) may_lack d (Some t) = array_of_made s n (v.Is m) may_lack d t
+array_at s n c may_lack d (Some t) = array_of_made s n c may_lack d t
+array_at s n c may_lack d None = (s, d)
+
+-- the same of this, if it has a type
+abbrev pub array_with : Checker → Counted → ConstantValue → Bool → Shaped → Checker × Shaped
+array_with s n c may_lack d = array_at s n c may_lack d d.kind
+
+abbrev pub array_without_at : Checker → Counted → Shaped → Option TypeId → Shaped
+array_without_at s n d (Some t) = with_kind (faulted_if d (is_no_object s (shape_of s.symbols.types t)) n rule.object_type) None
+array_without_at s n d None = d
+
+-- an array of this whose length is no constant: it has no type
+abbrev pub array_without : Checker → Counted → Shaped → Shaped
+array_without s n d = array_without_at s n d d.kind
 
 -- An array of this. Where its length has no type, nothing is judged; where it is no constant, there is no type.
 abbrev pub array_made : Checker → Counted → ConstantValue → Bool → Shaped → Checker × Shaped
-array_made s n c may_lack d = array_at s n c may_lack d d.kind
+array_made s n v.Untyped may_lack d = (s, unjudged d)
+array_made s n v.NoConstant may_lack d = (s, array_without s n d)
+array_made s n v.Missing may_lack d = array_with s n v.Missing may_lack d
+array_made s n (v.Is m) may_lack d = array_with s n (v.Is m) may_lack d
 
 abbrev pub typed_by : Checker → List Shape × TypeId → Checker × TypeId
 typed_by s p = (with_types s p.0, p.1)
@@ -150,14 +157,18 @@ limited_by n is_deep d = if is_deep then with_kind (faulted_if d true n rule.arr
 abbrev pub limited_as : Counted → Shaped → Checker × ℕ → Checker × Shaped
 limited_as n d p = (p.0, limited_by n (nat_lt 64 p.1) d)
 
-abbrev pub limited_at : Checker → Option Counted → Shaped → Option TypeId → Checker × Shaped
-limited_at s (Some n) d (Some t) = limited_as n d (depth_asked s t)
-limited_at s (Some n) d None = (s, d)
-limited_at s None d t = (s, d)
+abbrev pub limited_to : Checker → Counted → Shaped → Option TypeId → Checker × Shaped
+limited_to s n d (Some t) = limited_as n d (depth_asked s t)
+limited_to s n d None = (s, d)
 
--- what is too deep has no type
+-- what is too deep at this node has no type
+abbrev pub limited_at : Checker → Counted → Shaped → Checker × Shaped
+limited_at s n d = limited_to s n d d.kind
+
+-- the same, if there is a node
 abbrev pub limited : Checker → Option Counted → Shaped → Checker × Shaped
-limited s n d = limited_at s n d d.kind
+limited s (Some n) d = limited_at s n d
+limited s None d = (s, d)
 
 abbrev pub formed_as : Checker × Shaped → Checker × Formed
 formed_as p = (settled p.0 (judged_fault p.1), record { kind = p.1.kind; is_judged = p.1.is_judged })

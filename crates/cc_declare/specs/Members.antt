@@ -13,9 +13,8 @@ use Rattle.cc_types.specs.declared.shape.TypeId.{TypeId}
 use Rattle.cc_declare.specs.declared.checker.Checker.{Checker}
 use Rattle.cc_declare.specs.declared.members.Fields.{Fields}
 use Rattle.cc_declare.specs.declared.shaped.Formed.{Formed}
-use Rattle.cc_declare.specs.declared.specifiers.Specified.{Specified}
 use Rattle.cc_declare.specs.Forms.{depths_listed}
-use Rattle.cc_declare.specs.Objects.{object_judged, no_storage, no_inline}
+use Rattle.cc_declare.specs.Objects.{object_judged}
 use Rattle.cc_declare.specs.Rules as rule
 use Rattle.cc_declare.specs.State.{with_symbols, with_kind_at, offended_if}
 
@@ -47,10 +46,6 @@ member_of s fs n x d = (member_named (object_judged s n d false) n x d, field_ad
 abbrev pub member_made : Option (Counted × List ℕ) → Formed → Checker → Fields → Checker × Fields
 member_made (Some x) d s fs = member_of s fs x.0 x.1 d
 member_made None d s fs = (s, fs)
-
--- the specifiers of members, all of which are judged or not
-abbrev pub member_specifiers : Checker → Counted → Specified → Bool → Checker
-member_specifiers s n p are_judged = no_inline (no_storage s p.storage) n p.inline are_judged
 
 abbrev pub struct_as : Checker → Symbols × StructId → Checker × StructId
 struct_as s p = (with_symbols s p.0, p.1)

@@ -13,7 +13,7 @@ use Rattle.cc_declare.specs.declared.shaped.Formed.{Formed}
 use Rattle.cc_declare.specs.declared.specifiers.Specified.{Specified}
 use Rattle.cc_declare.specs.Declaring.{declared_once, formal_declared}
 use Rattle.cc_declare.specs.Naming.{name_in, is_lone_unnamed}
-use Rattle.cc_declare.specs.Objects.{object_judged, no_storage, no_inline}
+use Rattle.cc_declare.specs.Objects.{object_judged, plain_specifiers}
 use Rattle.cc_declare.specs.Shapes.{is_void_type}
 use Rattle.cc_declare.specs.Specifying.{some_as}
 use Rattle.cc_declare.specs.State.{with_kind_at}
@@ -48,8 +48,7 @@ parameter_as x n is_judged p =
 -- a parameter, by its specifiers and its declarator, and its type
 abbrev pub parameter_made : Option (Counted × List ℕ) → Counted → Specified → Formed → Checker → Checker × Option TypeId
 parameter_made x n p d s =
-    let t = no_inline (no_storage s p.storage) n p.inline d.is_judged in
-    parameter_as x n d.is_judged (adjusted_if t d.kind)
+    parameter_as x n d.is_judged (adjusted_if (plain_specifiers s n p d.is_judged) d.kind)
 
 abbrev pub is_void_at : Checker → Option (Option TypeId) → Bool
 is_void_at s (Some t) = is_void_type s t

@@ -96,17 +96,17 @@ bodied_if d has_body = record d { has_body = d.has_body || has_body }
 abbrev pub is_right : Said → Bool
 is_right d = words.name_one_type d.words && not d.has_two_storages
 
-abbrev pub makes_name : SpecWord → Bool
-makes_name w.Typedef = true
-makes_name x = false
+abbrev pub is_typedef : SpecWord → Bool
+is_typedef w.Typedef = true
+is_typedef x = false
 
-abbrev pub make_types_at : Said → Option Storage → Bool
-make_types_at d (Some x) = makes_name x.word || d.has_body
-make_types_at d None = d.has_body
+abbrev pub makes_name : Option Storage → Bool
+makes_name (Some x) = is_typedef x.word
+makes_name None = false
 
 -- a type is made in them, a typedef name included
 abbrev pub make_types : Said → Bool
-make_types d = make_types_at d d.storage
+make_types d = makes_name d.storage || d.has_body
 
 -- a typedef name
 abbrev pub aliased : Checker → Said → List ℕ → Said
@@ -127,10 +127,13 @@ struct_made s None = (s, None)
 abbrev pub enum_made : Checker → Checker × Option TypeId
 enum_made s = some_made s (h.Integer false k.Int)
 
+abbrev pub type_in : Core → Option TypeId
+type_in (c.Type t) = Some t
+type_in x = None
+
 abbrev pub bare_as : Checker → Core → Option Shape → Checker × Option TypeId
 bare_as s x (Some a) = some_made s a
-bare_as s (c.Type t) None = (s, Some t)
-bare_as s x None = (s, None)
+bare_as s x None = (s, type_in x)
 
 -- the type that words name, without a const
 abbrev pub bare_made : Checker → TypeWords → Checker × Option TypeId

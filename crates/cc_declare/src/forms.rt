@@ -89,6 +89,35 @@ impl<'a> Checker<'a> {
         Ok(shaped.faulted_if(is_broken, note, rule::ARRAY_SIZE).with_kind(Some(made)))
     }
 
+    // The same of this, if it has a type.
+    fn array_with(
+        &mut self,
+        note: Counted,
+        length: ConstantValue,
+        may_lack: bool,
+        shaped: Shaped,
+    ) -> Result<Shaped, Memory>
+        ensures { IfOk result (λ r. (self.new, r) ≡ spec.array_with self.old note length may_lack shaped) }
+    {
+        match shaped.kind {
+            Some(t) => self.array_of(note, length, may_lack, shaped, t),
+            None => Ok(shaped),
+        }
+    }
+
+    // An array of this whose length is no constant (C19): it has no type.
+    fn array_without(&self, note: Counted, shaped: Shaped) -> Shaped
+        ensures { result ≡ spec.array_without self.now note shaped }
+    {
+        match shaped.kind {
+            Some(t) => {
+                let is_broken = self.is_no_object(self.symbols.types.shape(t));
+                shaped.faulted_if(is_broken, note, rule::OBJECT_TYPE).with_kind(None)
+            }
+            None => shaped,
+        }
+    }
+
     /// An array of this. Where its length has no type, nothing is judged; where it is no constant, there is no type.
     pub fn array(
         &mut self,
@@ -99,15 +128,13 @@ impl<'a> Checker<'a> {
     ) -> Result<Shaped, Memory>
         ensures { IfOk result (λ r. (self.new, r) ≡ spec.array_made self.old note length may_lack shaped) }
     {
-        match (length, shaped.kind) {
-            (ConstantValue::Untyped, _) => Ok(shaped.unjudged()),
-            (_, None) => Ok(shaped),
-            (ConstantValue::NoConstant, Some(t)) => {
-                let shape = self.symbols.types.shape(t);
-                let is_broken = self.is_no_object(shape);
-                Ok(shaped.faulted_if(is_broken, note, rule::OBJECT_TYPE).with_kind(None))
+        match length {
+            ConstantValue::Untyped => Ok(shaped.unjudged()),
+            ConstantValue::NoConstant => Ok(self.array_without(note, shaped)),
+            ConstantValue::Missing => {
+                self.array_with(note, ConstantValue::Missing, may_lack, shaped)
             }
-            (_, Some(t)) => self.array_of(note, length, may_lack, shaped, t),
+            ConstantValue::Is(n) => self.array_with(note, ConstantValue::Is(n), may_lack, shaped),
         }
     }
 
@@ -229,16 +256,26 @@ impl<'a> Checker<'a> {
         Ok(self.symbols.depths.depth(&self.symbols.structs, shape).whole)
     }
 
-    // What is too deep (C20) has no type.
-    fn limited(&mut self, note: Option<Counted>, shaped: Shaped) -> Result<Shaped, Memory>
-        ensures { IfOk result (λ r. (self.new, r) ≡ spec.limited self.old note shaped) }
+    // What is too deep at this node (C20) has no type.
+    fn limited_at(&mut self, note: Counted, shaped: Shaped) -> Result<Shaped, Memory>
+        ensures { IfOk result (λ r. (self.new, r) ≡ spec.limited_at self.old note shaped) }
     {
-        match (note, shaped.kind) {
-            (Some(note), Some(t)) => {
+        match shaped.kind {
+            Some(t) => {
                 let depth = self.depth(t)?;
                 Ok(limited_by(note, depth > DEEPEST, shaped))
             }
-            _ => Ok(shaped),
+            None => Ok(shaped),
+        }
+    }
+
+    // The same, if there is a node.
+    fn limited(&mut self, note: Option<Counted>, shaped: Shaped) -> Result<Shaped, Memory>
+        ensures { IfOk result (λ r. (self.new, r) ≡ spec.limited self.old note shaped) }
+    {
+        match note {
+            Some(note) => self.limited_at(note, shaped),
+            None => Ok(shaped),
         }
     }
 

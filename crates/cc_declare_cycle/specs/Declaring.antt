@@ -20,7 +20,8 @@ use Rattle.cc_declare.specs.declared.specifiers.Setting.TheVariants as at
 use Rattle.cc_declare.specs.declared.specifiers.Specified.{Specified}
 use Rattle.cc_declare.specs.Enumerating.{enumerated}
 use Rattle.cc_declare.specs.Forms.{pointer_made, array_made, function_made, listed, formed, type_name_made}
-use Rattle.cc_declare.specs.Members.{no_fields, members_entered, members_left, member_made, member_specifiers, struct_with}
+use Rattle.cc_declare.specs.Members.{no_fields, members_entered, members_left, member_made, struct_with}
+use Rattle.cc_declare.specs.Objects.{plain_specifiers}
 use Rattle.cc_declare.specs.Naming.{name_in, note_in, is_nearest, is_lone_unnamed}
 use Rattle.cc_declare.specs.Parameters.{parameter_made}
 use Rattle.cc_declare.specs.Shaping.{based}
@@ -91,7 +92,7 @@ abbrev pub type_named_by : Said → Bool → Checker × Option TypeId → Checke
 type_named_by d has_body p = (p.0, bodied_if (type_said d p.1) has_body)
 
 abbrev pub member_as : Counted → Specified → Checker × (Fields × Bool) → Checker × Fields
-member_as n p q = (member_specifiers q.0 n p q.1.1, q.1.0)
+member_as n p q = (plain_specifiers q.0 n p q.1.1, q.1.0)
 
 abbrev pub field_in : Bool → Checker × Fields → Checker × (Fields × Bool)
 field_in is_judged p = (p.0, (p.1, is_judged))

@@ -310,7 +310,7 @@ fn member<'a>(
 {
     let said = specifiers(alloc, checker, Setting::Member, m.note, m.specs.as_slice())?;
     let are_judged = fields_of(alloc, checker, fields, said.kind, m.declarators.as_slice())?;
-    checker.member_specifiers(m.note, said, are_judged);
+    checker.plain_specifiers(m.note, said, are_judged);
     Ok(())
 }
 
