@@ -1,0 +1,45 @@
+// What an initialiser tells of the length of an array.
+
+use cc_arith::IntKind;
+use cc_base::Bytes;
+use cc_symbols::Symbols;
+use cc_tree::{Expr, Value};
+use cc_tree_notes::Counted;
+use cc_types::Shape;
+
+/// Whether it is a character type (C17 6.2.5, paragraph 15).
+pub fn is_character(a: Shape) -> bool {
+    matches!(
+        a,
+        Shape::Integer(_, IntKind::Char | IntKind::SChar | IntKind::UChar)
+    )
+}
+
+/// How many bytes string literals that stand side by side have, without the final zero.
+pub fn string_length(parts: &[Bytes]) -> u64 {
+    let mut n: u64 = 0;
+    for part in parts {
+        n = n.saturating_add(part.bytes().len() as u64);
+    }
+    n
+}
+
+// The length that an initialiser gives an array of such elements.
+fn length_of(element: Shape, v: &Value<Counted>) -> Option<u64> {
+    match v {
+        Value::List(_, vs, _) => Some(vs.as_slice().len() as u64),
+        Value::Expr(Expr::Str(_, parts)) if is_character(element) => {
+            Some(string_length(parts.as_slice()).saturating_add(1))
+        }
+        Value::Expr(_) => None,
+    }
+}
+
+/// The length that an initialiser tells an array of this shape that has none (C17 6.7.9, paragraph 22): the number of the
+/// initialisers in its list, or of the characters of its string literal with the final zero.
+pub fn told_length(symbols: &Symbols, a: Shape, v: &Value<Counted>) -> Option<u64> {
+    match a {
+        Shape::Array(_, element, None) => length_of(symbols.types.shape(element), v),
+        _ => None,
+    }
+}

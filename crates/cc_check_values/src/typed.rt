@@ -1,0 +1,41 @@
+// Which initialisers have types.
+
+use cc_symbols::{Findings, rule};
+use cc_tree::{Expr, Value};
+use cc_tree_notes::Counted;
+use cc_tree_walks::{expr_note, value_note};
+use cc_types::ExprType;
+use cc_typing::offend;
+
+/// The type that an expression was found to have.
+pub fn type_of(found: &Findings, e: &Expr<Counted>) -> Option<ExprType> {
+    match found.types.get(expr_note(e).number) {
+        Some(kind) => kind,
+        None => None,
+    }
+}
+
+/// Whether all expressions of an initialiser have a type: no rule on their own form is broken.
+#[cycle(typed)]
+pub fn is_typed(found: &Findings, v: &Value<Counted>) -> bool {
+    match v {
+        Value::Expr(e) => type_of(found, e).is_some(),
+        Value::List(_, vs, _) => are_typed(found, vs.as_slice()),
+    }
+}
+
+#[cycle(typed)]
+fn are_typed(found: &Findings, vs: &[Value<Counted>]) -> bool {
+    let mut all = true;
+    for v in vs {
+        all = all && is_typed(found, v);
+    }
+    all
+}
+
+/// C25 at an initialiser, where its expressions have types.
+pub fn misshapen(found: &mut Findings, v: &Value<Counted>) {
+    if is_typed(found, v) {
+        offend(found, value_note(v).spot, rule::INITIALISER_SHAPE);
+    }
+}
