@@ -78,15 +78,15 @@ fn head<'a>(
 }
 
 // The type of what a function gives.
-fn result_of<'a>(checker: &Checker<'a>, kind: Option<TypeId>) -> Option<TypeId> {
+fn returned_by<'a>(checker: &Checker<'a>, kind: Option<TypeId>) -> Option<TypeId> {
     match kind {
-        Some(kind) => result_of_type(checker, kind),
+        Some(kind) => returned_by_type(checker, kind),
         None => None,
     }
 }
 
 // The type of what a function of this type gives: it stands behind the parameters, each of which has a number of its own.
-fn result_of_type<'a>(checker: &Checker<'a>, kind: TypeId) -> Option<TypeId> {
+fn returned_by_type<'a>(checker: &Checker<'a>, kind: TypeId) -> Option<TypeId> {
     let mut rest = kind;
     for _ in 0..kind.0 {
         match checker.symbols.types.shape(rest) {
@@ -116,10 +116,10 @@ pub fn function<'a>(
     f: &'a Function<Counted>,
 ) -> Result<(), Memory> {
     let kind = head(alloc, &mut walk.checker, f)?;
-    let result = result_of(&walk.checker, kind);
+    let returned = returned_by(&walk.checker, kind);
     walk.checker.enter()?;
     declare_formals(&mut walk.checker, &f.declarator)?;
-    items(alloc, walk, result, f.body.items.as_slice())?;
+    items(alloc, walk, returned, f.body.items.as_slice())?;
     walk.checker.leave();
     Ok(())
 }

@@ -93,12 +93,12 @@ fn is_void(shape: Shape) -> bool {
 // C31 and C38 of a value that is returned, where it has a type.
 fn check_returned<'a>(
     checker: &mut Checker<'a>,
-    result: Option<TypeId>,
+    returned: Option<TypeId>,
     n: Counted,
     e: &Expr<Counted>,
     kind: Option<ExprType>,
 ) {
-    if let Some(target) = checker.shape_of(result) {
+    if let Some(target) = checker.shape_of(returned) {
         if is_void(target) {
             checker.offend_if(kind.is_some(), n, rule::RETURN_VALUE);
         } else {
@@ -109,8 +109,8 @@ fn check_returned<'a>(
 }
 
 // C31 of a `return` without a value.
-fn check_no_value<'a>(checker: &mut Checker<'a>, result: Option<TypeId>, n: Counted) {
-    if let Some(target) = checker.shape_of(result) {
+fn check_no_value<'a>(checker: &mut Checker<'a>, returned: Option<TypeId>, n: Counted) {
+    if let Some(target) = checker.shape_of(returned) {
         checker.offend_if(!is_void(target), n, rule::RETURN_VALUE);
     }
 }
@@ -119,18 +119,18 @@ fn check_no_value<'a>(checker: &mut Checker<'a>, result: Option<TypeId>, n: Coun
 fn leaving<'a>(
     alloc: Global,
     checker: &mut Checker<'a>,
-    result: Option<TypeId>,
+    returned: Option<TypeId>,
     n: Counted,
     e: &'a Option<Expr<Counted>>,
 ) -> Result<(), Memory> {
     match e {
         Some(e) => {
             let kind = expression(alloc, checker, e)?;
-            check_returned(checker, result, n, e, kind);
+            check_returned(checker, returned, n, e, kind);
             Ok(())
         }
         None => {
-            check_no_value(checker, result, n);
+            check_no_value(checker, returned, n);
             Ok(())
         }
     }
@@ -198,34 +198,34 @@ fn misplaced<'a>(
 pub fn stmt<'a>(
     alloc: Global,
     walk: &mut Walk<'a>,
-    result: Option<TypeId>,
+    returned: Option<TypeId>,
     s: &'a Stmt<Counted>,
 ) -> Result<(), Memory> {
     match s {
-        Stmt::Block(b) => block(alloc, walk, result, b),
+        Stmt::Block(b) => block(alloc, walk, returned, b),
         Stmt::Plain(_, e) => {
             expression(alloc, &mut walk.checker, e)?;
             Ok(())
         }
         Stmt::If(_, c, s) => {
             condition(alloc, &mut walk.checker, c)?;
-            stmt(alloc, walk, result, s.get())
+            stmt(alloc, walk, returned, s.get())
         }
         Stmt::IfElse(_, c, s, o) => {
             condition(alloc, &mut walk.checker, c)?;
-            stmt(alloc, walk, result, s.get())?;
-            stmt(alloc, walk, result, o.get())
+            stmt(alloc, walk, returned, s.get())?;
+            stmt(alloc, walk, returned, o.get())
         }
         Stmt::Switch(n, e, b) => {
             let mut labels = asked(alloc, &mut walk.checker, *n, e)?;
-            switch_block(alloc, walk, result, &mut labels, b)
+            switch_block(alloc, walk, returned, &mut labels, b)
         }
         Stmt::While(_, c, s) => {
             condition(alloc, &mut walk.checker, c)?;
-            stmt(alloc, walk, result, s.get())
+            stmt(alloc, walk, returned, s.get())
         }
         Stmt::Do(_, s, c) => {
-            stmt(alloc, walk, result, s.get())?;
+            stmt(alloc, walk, returned, s.get())?;
             condition(alloc, &mut walk.checker, c)
         }
         Stmt::For(_, first, test, each, s) => {
@@ -233,11 +233,11 @@ pub fn stmt<'a>(
             start(alloc, &mut walk.checker, first)?;
             maybe_condition(alloc, &mut walk.checker, test)?;
             maybe_expression(alloc, &mut walk.checker, each)?;
-            stmt(alloc, walk, result, s.get())?;
+            stmt(alloc, walk, returned, s.get())?;
             walk.checker.leave();
             Ok(())
         }
-        Stmt::Return(n, e) => leaving(alloc, &mut walk.checker, result, *n, e),
+        Stmt::Return(n, e) => leaving(alloc, &mut walk.checker, returned, *n, e),
         Stmt::Empty(_) | Stmt::Break(_) | Stmt::Continue(_) => Ok(()),
     }
 }
@@ -247,11 +247,11 @@ pub fn stmt<'a>(
 fn block<'a>(
     alloc: Global,
     walk: &mut Walk<'a>,
-    result: Option<TypeId>,
+    returned: Option<TypeId>,
     b: &'a Block<Counted>,
 ) -> Result<(), Memory> {
     walk.checker.enter()?;
-    items(alloc, walk, result, b.items.as_slice())?;
+    items(alloc, walk, returned, b.items.as_slice())?;
     walk.checker.leave();
     Ok(())
 }
@@ -261,11 +261,11 @@ fn block<'a>(
 pub fn items<'a>(
     alloc: Global,
     walk: &mut Walk<'a>,
-    result: Option<TypeId>,
+    returned: Option<TypeId>,
     is: &'a [Item<Counted>],
 ) -> Result<(), Memory> {
     for i in is {
-        item(alloc, walk, result, i)?;
+        item(alloc, walk, returned, i)?;
     }
     Ok(())
 }
@@ -274,7 +274,7 @@ pub fn items<'a>(
 fn item<'a>(
     alloc: Global,
     walk: &mut Walk<'a>,
-    result: Option<TypeId>,
+    returned: Option<TypeId>,
     i: &'a Item<Counted>,
 ) -> Result<(), Memory> {
     match i {
@@ -287,7 +287,7 @@ fn item<'a>(
             Ok(())
         }
         Item::Default(_) => Ok(()),
-        Item::Stmt(s) => stmt(alloc, walk, result, s),
+        Item::Stmt(s) => stmt(alloc, walk, returned, s),
     }
 }
 
@@ -296,12 +296,12 @@ fn item<'a>(
 fn switch_block<'a>(
     alloc: Global,
     walk: &mut Walk<'a>,
-    result: Option<TypeId>,
+    returned: Option<TypeId>,
     labels: &mut Labels,
     b: &'a Block<Counted>,
 ) -> Result<(), Memory> {
     walk.checker.enter()?;
-    switch_items(alloc, walk, result, labels, b.items.as_slice())?;
+    switch_items(alloc, walk, returned, labels, b.items.as_slice())?;
     walk.checker.leave();
     Ok(())
 }
@@ -310,12 +310,12 @@ fn switch_block<'a>(
 fn switch_items<'a>(
     alloc: Global,
     walk: &mut Walk<'a>,
-    result: Option<TypeId>,
+    returned: Option<TypeId>,
     labels: &mut Labels,
     is: &'a [Item<Counted>],
 ) -> Result<(), Memory> {
     for i in is {
-        switch_item(alloc, walk, result, labels, i)?;
+        switch_item(alloc, walk, returned, labels, i)?;
     }
     Ok(())
 }
@@ -324,7 +324,7 @@ fn switch_items<'a>(
 fn switch_item<'a>(
     alloc: Global,
     walk: &mut Walk<'a>,
-    result: Option<TypeId>,
+    returned: Option<TypeId>,
     labels: &mut Labels,
     i: &'a Item<Counted>,
 ) -> Result<(), Memory> {
@@ -336,6 +336,6 @@ fn switch_item<'a>(
             walk.checker.offend_if(!is_new, *n, rule::NEW_LABEL);
             Ok(())
         }
-        Item::Stmt(s) => stmt(alloc, walk, result, s),
+        Item::Stmt(s) => stmt(alloc, walk, returned, s),
     }
 }
