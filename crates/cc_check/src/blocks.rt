@@ -49,7 +49,7 @@ fn check_inner<'a>(
 // Completes the type of what is declared.
 fn complete<'a>(checker: &mut Checker<'a>, named: Named<'a>, number: u32, kind: Option<TypeId>) {
     if let Some(kind) = kind {
-        checker.retype(named, number, kind);
+        checker.retype(named.note, number, kind);
     }
 }
 

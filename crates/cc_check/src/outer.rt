@@ -150,7 +150,7 @@ fn settle_type<'a>(
     match declared.kind {
         Some(earlier) if checker.symbols.types.compatible(earlier, kind) => {
             let both = checker.symbols.types.composed(earlier, kind);
-            checker.retype(named, number, both);
+            checker.retype(named.note, number, both);
         }
         _ => checker.offend_if(is_judged, named.note, rule::NEW_NAME),
     }

@@ -4,7 +4,7 @@ use crate::declarations::declaration;
 use crate::labels::Labels;
 use crate::storage::Region;
 use cc_base::{List, Memory};
-use cc_declare::{Checker, Length};
+use cc_declare::{Checker, ConstantValue};
 use cc_declare_cycle::{constant_of, expression};
 use cc_symbols::rule;
 use cc_tree::{Block, Declaration, Expr, ForStart, Item, Stmt};
@@ -177,7 +177,7 @@ fn case<'a>(
     e: &'a Expr<Counted>,
 ) -> Result<(), Memory> {
     match constant_of(alloc, &mut walk.checker, e)? {
-        Length::Is(value) => compared(walk, labels, n, value),
+        ConstantValue::Is(value) => compared(walk, labels, n, value),
         _ => Ok(()),
     }
 }
