@@ -17,11 +17,3 @@ mod values;
 
 pub use statements::CaseValue;
 pub use unit::{CheckFault, Checked, check_unit};
-
-#[cfg(test)]
-mod tests {
-    #[test]
-    fn nothing(rt: HostRuntime) {
-        assert!(rt; 1 == 1);
-    }
-}

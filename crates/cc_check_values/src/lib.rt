@@ -13,11 +13,3 @@ mod typed;
 pub use length::told_length;
 pub use shape::check_value;
 pub use typed::is_typed;
-
-#[cfg(test)]
-mod tests {
-    #[test]
-    fn nothing(rt: HostRuntime) {
-        assert!(rt; 1 == 1);
-    }
-}
