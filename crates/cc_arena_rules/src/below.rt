@@ -3,7 +3,7 @@
 use crate::around::{Around, Extent, Standing};
 use crate::look::{inside, is_array, is_automatic, is_one_struct, nodes_in, type_at};
 use cc_arena::{Arena, Node, Placed};
-use cc_arith::{IntOp, Relation};
+use cc_arith::IntOp;
 use cc_base::Memory;
 use cc_symbols::{Findings, Slots, Symbols};
 use cc_tree::{AssignOp, BinaryOp, UnaryOp};
