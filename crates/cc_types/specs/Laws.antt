@@ -1,6 +1,6 @@
 -- Laws of the table of types, as statements.
 use Rattle.std.specs.Prelude.{◌≡◌, ◌<◌, ◌≤◌, ◌+◌, ◌-◌, ◌^◌, ◌↔◌, ◌⊎◌, true, false, ℕ, take, Bool, List, [], length, Option}
-use Rattle.cc_types.specs.CTypes.{CTypeTree, is_function, array_from, function_to, function_taking}
+use Rattle.cc_types.specs.CTypes.{CTypeTree, is_function, array_from, function_to, function_taking, adjusted_from}
 use Rattle.cc_types.specs.SameTypes.{same_type}
 use Rattle.cc_types.specs.Questions.{also_const}
 use Rattle.cc_types.specs.declared.shape.Shape.{Shape}
@@ -14,7 +14,7 @@ use Rattle.cc_types.specs.Measures.{entry_of, members_measured, capped}
 use Rattle.cc_types.specs.Depths.{depth_of, depth_in, item_at, caught_up, mentions, struct_deep}
 use Rattle.cc_types.specs.Asked.{is_array}
 use Rattle.cc_types.specs.Structs.{is_complete, added, completed}
-use Rattle.cc_types.specs.Interning.{interned, array_made, function_made, taking_made, const_made}
+use Rattle.cc_types.specs.Interning.{interned, array_made, function_made, taking_made, const_made, adjusted}
 
 -- the test of types says that they are the same
 abbrev pub SameTypesAreTold : Type 0
@@ -54,6 +54,9 @@ ParametersAreTaken = (ss : List Shape) → IsTable ss → (t f : TypeId) → f.0
 
 abbrev pub ConstIsAdded : Type 0
 ConstIsAdded = (ss : List Shape) → IsTable ss → (k : Bool) (t : TypeId) → Makes ss (const_made ss k t) (also_const k (type_at (types_of ss) t))
+
+abbrev pub ParametersAreAdjusted : Type 0
+ParametersAreAdjusted = (ss : List Shape) → IsTable ss → (t : TypeId) → t.0 < length ss → Makes ss (adjusted ss t) (adjusted_from (type_at (types_of ss) t))
 
 -- What each struct keeps is what its members measure: it is complete where each of them is, and then nothing changes it.
 pub record AreMeasured (ts : List CTypeTree) (es : List StructEntry) : Type 0 where

@@ -1,5 +1,5 @@
 //! Laws of the definitions, for the crates above: each function does nothing, and its contract is the law.
-ghost use Rattle.cc_types.specs.Laws.{SameTypesAreTold, EqualTypesHaveEqualNumbers, EqualTypesHaveEqualShapes, InterningMakes, ArraysAreMade, FunctionsAreMade, ParametersAreTaken, ConstIsAdded, NoStructsAreMeasured, AddingKeepsMeasures, CompletingKeepsMeasures, MoreTypesKeepMeasures, CompleteStructsStay, NothingIsListed, CatchingUpLists, ListedDepthsAreRight, CountedThroughout, AddingKeepsLists, CompletingKeepsLists, AddingKeepsDepths, CompletingKeepsDepths};
+ghost use Rattle.cc_types.specs.Laws.{SameTypesAreTold, EqualTypesHaveEqualNumbers, EqualTypesHaveEqualShapes, InterningMakes, ArraysAreMade, FunctionsAreMade, ParametersAreTaken, ConstIsAdded, ParametersAreAdjusted, NoStructsAreMeasured, AddingKeepsMeasures, CompletingKeepsMeasures, MoreTypesKeepMeasures, CompleteStructsStay, NothingIsListed, CatchingUpLists, ListedDepthsAreRight, CountedThroughout, AddingKeepsLists, CompletingKeepsLists, AddingKeepsDepths, CompletingKeepsDepths};
 
 /// The test of types says that they are the same, and in a table of types equal types have equal numbers and equal shapes.
 pub fn equality_laws()
@@ -16,6 +16,7 @@ pub fn making_laws()
     ensures functions { FunctionsAreMade }
     ensures parameters { ParametersAreTaken }
     ensures added { ConstIsAdded }
+    ensures adjusted { ParametersAreAdjusted }
 {}
 
 /// What each complete struct keeps is what its members measure, from no structs on over all calls that change structs or
