@@ -1,4 +1,6 @@
 // What a node has from the nodes around it.
+ghost use Rattle.std.specs.Prelude.{◌≡◌};
+ghost use Rattle.cc_arena_rules.specs.Surroundings as spec;
 
 /// How an expression stands, where it is about assignments and commas.
 #[derive(Clone, Copy)]
@@ -43,8 +45,10 @@ pub struct Around {
 }
 
 impl Around {
-    /// Of what is a part of nothing.
-    pub fn outermost() -> Around {
+    // Of what is a part of nothing.
+    pub(crate) fn outermost() -> Around
+        ensures { result ≡ spec.outermost }
+    {
         Around {
             may_break: false,
             may_continue: false,

@@ -9,12 +9,13 @@
 mod around;
 mod below;
 mod broken;
+mod inherit;
 mod look;
 mod offences;
 mod repeats;
 mod variables;
 
 pub use around::{Around, Extent, Standing};
-pub use below::surroundings;
+pub use inherit::surroundings;
 pub use offences::offence_in;
 pub use variables::taken;

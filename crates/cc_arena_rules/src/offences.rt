@@ -1,8 +1,13 @@
 // The least offence of a stretch of nodes.
+ghost use Rattle.std.specs.Prelude.{◌≡◌, ◌+◌, ◌<◌, ◌^◌, None, length, IfOk};
+ghost use Rattle.cc_arena_rules.specs.Broken.{judged};
+ghost use Rattle.cc_arena_rules.specs.Least as spec;
 
 use crate::around::Around;
-use crate::below::surroundings;
-use crate::broken::{Judging, breaks_jump};
+use crate::broken::{
+    Judging, breaks_assignment, breaks_comma, breaks_jump, breaks_label, breaks_null, breaks_struct,
+};
+use crate::inherit::{around_at, surroundings};
 use crate::look::nodes_in;
 use crate::repeats::repeats;
 use crate::variables::taken;
@@ -12,26 +17,31 @@ use cc_symbols::{Findings, Offence, Symbols, lesser, rule};
 use std::alloc::Global;
 
 // The least rule that is broken at the node `n`.
-fn rule_at(judging: Judging, n: u32, placed: Placed, around: Around) -> Option<u8> {
-    if breaks_jump(placed.node, around) {
+fn rule_at(judging: &Judging, n: u32, placed: Placed, around: Around) -> Option<u8>
+    ensures { result ≡ spec.rule_at (judged judging.now) n placed around }
+{
+    let node = placed.node;
+    if breaks_jump(node, around) {
         Some(rule::JUMP)
-    } else if judging.breaks_label(placed) {
+    } else if breaks_label(judging.arena, judging.found, node, placed.parent) {
         Some(rule::LABEL_PLACE)
-    } else if judging.breaks_assignment(placed.node, around) {
+    } else if breaks_assignment(judging, node, around) {
         Some(rule::ASSIGNMENT_PLACE)
-    } else if judging.breaks_comma(placed.node, around) {
+    } else if breaks_comma(judging.found, node, around) {
         Some(rule::COMMA_PLACE)
-    } else if judging.breaks_null(placed.node, n, around) {
+    } else if breaks_null(judging.symbols, judging.found, node, n, around) {
         Some(rule::CAST)
-    } else if judging.breaks_struct(placed.node, n, around) {
+    } else if breaks_struct(judging.symbols, judging.found, node, n, around) {
         Some(rule::STRUCT_VALUE)
     } else {
         None
     }
 }
 
-fn offence_at(judging: Judging, n: u32, placed: Placed, around: Around) -> Option<Offence> {
-    match rule_at(judging, n, placed, around) {
+fn offence_of(placed: Placed, rule: Option<u8>) -> Option<Offence>
+    ensures { result ≡ spec.offence_of placed rule }
+{
+    match rule {
         Some(rule) => Some(Offence {
             spot: placed.spot,
             rule,
@@ -40,12 +50,25 @@ fn offence_at(judging: Judging, n: u32, placed: Placed, around: Around) -> Optio
     }
 }
 
-fn least(judging: Judging, nodes: &[Placed], around: &[Around]) -> Option<Offence> {
+fn offence_at(judging: &Judging, n: u32, placed: Placed, own: Option<Around>) -> Option<Offence>
+    ensures { result ≡ spec.offence_at (judged judging.now) n placed own }
+{
+    match own {
+        Some(around) => offence_of(placed, rule_at(judging, n, placed, around)),
+        None => None,
+    }
+}
+
+fn least(judging: &Judging, nodes: &[Placed], around: &[Around]) -> Option<Offence>
+    requires { judging.now.start + length nodes.now < 2 ^ 32 }
+    ensures { result ≡ spec.least_from (judged judging.now) around.now nodes.now judging.now.start None }
+{
     let mut least = None;
     let mut n = judging.start;
-    for (placed, own) in nodes.iter().zip(around.iter()) {
-        least = lesser(least, offence_at(judging, n, *placed, *own));
-        n = n.saturating_add(1);
+    for placed in nodes {
+        let own = around_at(around, judging.start, n);
+        least = lesser(least, offence_at(judging, n, *placed, own));
+        n += 1;
     }
     least
 }
@@ -60,7 +83,9 @@ pub fn offence_in(
     found: &Findings,
     start: u32,
     end: u32,
-) -> Result<Option<Offence>, Memory> {
+) -> Result<Option<Offence>, Memory>
+    ensures { IfOk result (λ least. least ≡ spec.least_offence arena.now symbols.now found.now start end) }
+{
     let around = surroundings(alloc, arena, symbols, found, start, end)?;
     let taken = taken(alloc, arena, symbols, around.as_slice(), start, end)?;
     let repeats = repeats(alloc, arena, symbols, around.as_slice(), start, end)?;
@@ -68,9 +93,9 @@ pub fn offence_in(
         arena,
         symbols,
         found,
-        taken: &taken,
-        repeats: &repeats,
+        taken: taken.as_slice(),
+        repeats: repeats.as_slice(),
         start,
     };
-    Ok(least(judging, nodes_in(arena, start, end), around.as_slice()))
+    Ok(least(&judging, nodes_in(arena, start, end), around.as_slice()))
 }

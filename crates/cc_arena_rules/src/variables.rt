@@ -1,23 +1,65 @@
 // Of which variables the address is taken.
+ghost use Rattle.std.specs.Prelude.{◌≡◌, ◌+◌, ◌<◌, ◌^◌, length, OnOk, IfOk};
+ghost use Rattle.cc_arena_rules.specs.Inherited.{answer_at};
+ghost use Rattle.cc_arena_rules.specs.Variables as spec;
 
 use crate::around::Around;
+use crate::inherit::around_at;
 use crate::look::{named, nodes_in};
 use cc_arena::{Arena, Node, Placed};
 use cc_base::Memory;
 use cc_symbols::{Slots, Symbols};
 use std::alloc::Global;
 
-// Whether the node takes the address of what it names.
-fn takes(node: Node, around: Around) -> bool {
-    match node {
-        Node::Name => around.is_addressed || around.is_array,
+// Whether a node takes the address of what it names.
+fn takes(node: Node, own: Option<Around>) -> bool
+    ensures { result ≡ spec.takes node own }
+{
+    match (node, own) {
+        (Node::Name, Some(own)) => own.is_addressed || own.is_array,
         _ => false,
     }
 }
 
-/// For each declaration, by number, whether the address of the variable is taken in a stretch of nodes, whose surroundings
-/// these are: its name, alone or followed by `.` and subscripts, is the operand of `&`, parentheses aside; or an array part
-/// of it is used as a value or subscripted. Operands that aren't evaluated count too.
+fn mark(flags: &mut Slots<bool>, declaration: Option<u32>)
+    ensures { flags.new ≡ spec.marked declaration flags.old }
+{
+    match declaration {
+        Some(d) => flags.put(d, true),
+        None => {}
+    }
+}
+
+fn mark_if(flags: &mut Slots<bool>, takes: bool, declaration: Option<u32>)
+    ensures { flags.new ≡ spec.marked_if takes declaration flags.old }
+{
+    if takes {
+        mark(flags, declaration);
+    }
+}
+
+fn mark_all(
+    flags: &mut Slots<bool>,
+    symbols: &Symbols,
+    around: &[Around],
+    nodes: &[Placed],
+    start: u32,
+)
+    requires { start + length nodes.now < 2 ^ 32 }
+    ensures { flags.new ≡ spec.taken_from symbols.now around.now start nodes.now start flags.old }
+{
+    let mut n = start;
+    for placed in nodes {
+        let takes = takes(placed.node, around_at(around, start, n));
+        mark_if(flags, takes, named(symbols, n));
+        n += 1;
+    }
+}
+
+/// For each declaration, by number, whether the address of the variable is taken in the nodes from `start` to before `end`,
+/// whose surroundings are `around`: its name, alone or followed by `.` and subscripts, is the operand of `&`, parentheses
+/// aside; or an array part of it is used as a value or subscripted. Operands that aren't evaluated count too. Fails where
+/// memory is wanting.
 pub fn taken(
     alloc: Global,
     arena: &Arena,
@@ -25,21 +67,17 @@ pub fn taken(
     around: &[Around],
     start: u32,
     end: u32,
-) -> Result<Slots<bool>, Memory> {
+) -> Result<Slots<bool>, Memory>
+    ensures { IfOk result (λ flags. flags ≡ spec.taken arena.now symbols.now around.now start end) }
+{
     let mut flags = Slots::new(alloc);
     flags.grow(symbols.declared.count()?, false)?;
-    let mut n = start;
-    for (placed, own) in nodes_in(arena, start, end).iter().zip(around.iter()) {
-        mark(&mut flags, symbols, n, *placed, *own);
-        n = n.saturating_add(1);
-    }
+    mark_all(
+        &mut flags,
+        symbols,
+        around,
+        nodes_in(arena, start, end),
+        start,
+    );
     Ok(flags)
-}
-
-fn mark(flags: &mut Slots<bool>, symbols: &Symbols, n: u32, placed: Placed, own: Around) {
-    if takes(placed.node, own) {
-        if let Some(d) = named(symbols, n) {
-            flags.put(d, true);
-        }
-    }
 }
