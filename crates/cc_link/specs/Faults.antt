@@ -9,8 +9,8 @@ abbrev pub is_before : Fault → Fault → Bool
 is_before a b =
     if nat_eq a.place.file.0 b.place.file.0
     then (if nat_eq a.place.line b.place.line
-        then (if nat_eq a.place.column b.place.column then nat_lt a.rule b.rule else nat_lt a.place.column b.place.column)
-        else nat_lt a.place.line b.place.line)
+    then (if nat_eq a.place.column b.place.column then nat_lt a.rule b.rule else nat_lt a.place.column b.place.column)
+    else nat_lt a.place.line b.place.line)
     else nat_lt a.place.file.0 b.place.file.0
 
 abbrev pub lesser : Option Fault → Option Fault → Option Fault

@@ -114,5 +114,5 @@ nodes_numbered ds names ss n (x ∷ xs) ns = nodes_numbered ds names ss (next n)
 abbrev pub unnumbered : List Declared → Numbers
 unnumbered ds = record { referents = constants ds; functions = []; variables = [] }
 
-abbrev pub numbers : List Declared → List (Option ℕ) → List Standing → List Placed → Numbers
-numbers ds names ss xs = nodes_numbered ds names ss 0 xs (unnumbered ds)
+abbrev pub all_numbers : List Declared → List (Option ℕ) → List Standing → List Placed → Numbers
+all_numbers ds names ss xs = nodes_numbered ds names ss 0 xs (unnumbered ds)

@@ -46,13 +46,13 @@ standing_as External ns ds x n d = external ns x n d.kind
 standing_as Internal ns ds x n d = alone n (definition_of ds n) d.kind
 standing_as Without ns ds x n d = alone n (own_definition d) d.kind
 
-abbrev pub standing : LinkedNames → Definitions → List ℕ → ℕ → Declared → Standing
-standing ns ds x n d = standing_as d.linkage ns ds x n d
+abbrev pub standing_of : LinkedNames → Definitions → List ℕ → ℕ → Declared → Standing
+standing_of ns ds x n d = standing_as d.linkage ns ds x n d
 
 -- those of the declarations from number n on, behind those that are there
 abbrev pub standings_from : LinkedNames → Definitions → List (List ℕ) → ℕ → List Declared → List Standing → List Standing
 standings_from ns ds xs n [] done = done
-standings_from ns ds xs n (d ∷ rest) done = standings_from ns ds xs (next n) rest (done ++ standing ns ds (text_at xs n) n d ∷ [])
+standings_from ns ds xs n (d ∷ rest) done = standings_from ns ds xs (next n) rest (done ++ standing_of ns ds (text_at xs n) n d ∷ [])
 
 abbrev pub standings : LinkedNames → Definitions → List (List ℕ) → List Declared → List Standing
 standings ns ds xs rest = standings_from ns ds xs 0 rest []

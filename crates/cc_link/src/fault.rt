@@ -65,12 +65,7 @@ pub fn lesser(one: Option<Fault>, other: Option<Fault>) -> Option<Fault>
 }
 
 /// The least fault, where a rule may be broken at this place.
-pub fn noted(
-    least: Option<Fault>,
-    broken: Option<u8>,
-    file: FileId,
-    spot: Spot,
-) -> Option<Fault>
+pub fn noted(least: Option<Fault>, broken: Option<u8>, file: FileId, spot: Spot) -> Option<Fault>
     ensures { result ≡ spec.noted least broken file spot }
 {
     match broken {

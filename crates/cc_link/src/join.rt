@@ -5,7 +5,7 @@ use crate::ends::end_files;
 use crate::external::{link_files, mark_all};
 use crate::fault::{Fault, LinkFault, lesser};
 use crate::linked::Links;
-use crate::numbers::{Numbers, numbers};
+use crate::numbers::{Numbers, all_numbers};
 use crate::standing::{Standings, standings};
 use crate::structs::whole_structs;
 use crate::tables;
@@ -69,7 +69,7 @@ fn no_name_fault(fault: Option<NameFault>) -> Result<(), LinkFault> {
 }
 
 // The tables.
-fn tables(
+fn made_tables(
     alloc: Global,
     links: &Links,
     standings: &Standings,
@@ -78,7 +78,7 @@ fn tables(
     units: &[CheckedUnit],
     project: &Project,
 ) -> Result<Tables, Memory> {
-    let numbers = numbers(alloc, symbols, standings, arena)?;
+    let numbers = all_numbers(alloc, symbols, standings, arena)?;
     Ok(Tables {
         structs: whole_structs(alloc, &symbols.types, &symbols.structs, units)?,
         functions: tables::functions(alloc, &numbers, symbols, standings, arena)?,
@@ -100,15 +100,32 @@ fn joined(
 ) -> Result<Tables, LinkFault> {
     let definitions = definitions(alloc, symbols.declared.count()?, units)?;
     let mut links = Links::new(alloc);
-    let external = link_files(&mut links, &symbols.types, &symbols.texts, &definitions, units)?;
+    let external = link_files(
+        &mut links,
+        &symbols.types,
+        &symbols.texts,
+        &definitions,
+        units,
+    )?;
     mark_all(&mut links, &project.environment)?;
-    let standings = standings(alloc, &links, &definitions, &symbols.texts, &symbols.declared)?;
+    let standings = standings(
+        alloc,
+        &links,
+        &definitions,
+        &symbols.texts,
+        &symbols.declared,
+    )?;
     let named = name_faults(alloc, symbols, units)?;
     let ended = end_files(&symbols.types, &symbols.declared, &definitions, units);
     let used = use_all(symbols, &standings, arena, units);
     no_fault(lesser(lesser(external, named), lesser(ended, used)))?;
-    no_name_fault(check_all_names(&links, &symbols.types, &project.entries, &project.environment))?;
-    Ok(tables(alloc, &links, &standings, symbols, arena, units, project)?)
+    no_name_fault(check_all_names(
+        &links,
+        &symbols.types,
+        &project.entries,
+        &project.environment,
+    ))?;
+    Ok(made_tables(alloc, &links, &standings, symbols, arena, units, project)?)
 }
 
 /// The program that the checked files of a project make. `units` has one unit for each file, in the order of the project;

@@ -24,3 +24,11 @@ mod uses;
 
 pub use fault::{LinkFault, Names};
 pub use join::link;
+
+#[cfg(test)]
+mod tests {
+    #[test]
+    fn runs(rt: HostRuntime) {
+        assert!(rt; 1 == 1);
+    }
+}

@@ -94,12 +94,7 @@ impl Numbers {
     }
 
     // A declaration.
-    fn declare(
-        &mut self,
-        form: Form,
-        standing: Standing,
-        declaration: u32,
-    ) -> Result<(), Memory>
+    fn declare(&mut self, form: Form, standing: Standing, declaration: u32) -> Result<(), Memory>
         ensures { OnOk result (self.new ≡ spec.declared form standing declaration self.old) }
     {
         if !is_numbered(form, standing) {
@@ -197,14 +192,14 @@ fn number_nodes(
 }
 
 /// The numbers of all functions and variables.
-pub fn numbers(
+pub fn all_numbers(
     alloc: Global,
     symbols: &Symbols,
     standings: &Standings,
     arena: &Arena,
 ) -> Result<Numbers, Memory>
     ensures { IfOk result (λ numbers.
-        numbers ≡ spec.numbers symbols.now.declared symbols.now.names standings.now arena.now.nodes) }
+        numbers ≡ spec.all_numbers symbols.now.declared symbols.now.names standings.now arena.now.nodes) }
 {
     let mut numbers = Numbers {
         referents: constants(alloc, &symbols.declared)?,

@@ -70,14 +70,14 @@ fn external(links: &Links, name: &str, number: u32, kind: Option<TypeId>) -> Sta
 }
 
 // What the declaration of this number is.
-fn standing(
+fn standing_of(
     links: &Links,
     definitions: &Definitions,
     name: &str,
     number: u32,
     declared: Declared,
 ) -> Standing
-    ensures { result ≡ spec.standing links.now definitions.now name.now number declared }
+    ensures { result ≡ spec.standing_of links.now definitions.now name.now number declared }
 {
     match declared.linkage {
         Linkage::External => external(links, name, number, declared.kind),
@@ -100,7 +100,7 @@ pub fn standings(
     let mut number = 0;
     for declared in declared.as_slice() {
         let name = text_at(texts, number);
-        table.push(standing(links, definitions, name, number, *declared))?;
+        table.push(standing_of(links, definitions, name, number, *declared))?;
         number = next(number);
     }
     Ok(table)

@@ -5,9 +5,7 @@ use crate::numbers::{Numbers, declared_at};
 use crate::standing::{Standings, standing_at};
 use cc_arena::{Arena, Node};
 use cc_base::{List, Memory, Text};
-use cc_program::{
-    FileEntry, FuncId, Function, FunctionKind, Referent, VarId, Variable,
-};
+use cc_program::{FileEntry, FuncId, Function, FunctionKind, Referent, VarId, Variable};
 use cc_project::{ProjectFile, TextList};
 use cc_symbols::{CHAR, CheckedUnit, Declared, Form, Life, Slots, Symbols};
 use cc_tree_copies::copied_text;
@@ -141,9 +139,7 @@ pub fn functions(
 ) -> Result<List<Function>, Memory> {
     let mut functions = List::new(alloc);
     for first in numbers.functions.as_slice() {
-        functions.push(function_of(
-            alloc, numbers, symbols, standings, arena, *first,
-        )?)?;
+        functions.push(function_of(alloc, numbers, symbols, standings, arena, *first)?)?;
     }
     Ok(functions)
 }

@@ -22,11 +22,7 @@ fn typedef(outer: &Outer) -> Linked
 }
 
 // A declarator of a typedef name: the rule that it breaks.
-fn name_one<'a>(
-    names: &mut Links<'a>,
-    name: &'a str,
-    outer: &Outer,
-) -> Result<Option<u8>, Memory>
+fn name_one<'a>(names: &mut Links<'a>, name: &'a str, outer: &Outer) -> Result<Option<u8>, Memory>
     ensures { IfOk result (λ broken. (names.new, broken) ≡ spec.named_one name.now outer.now names.old) }
 {
     match names.find(name) {
