@@ -47,16 +47,12 @@ abbrev pub referent : Numbers → ℕ → Option Referent
 referent ns d = found (slice_get ns.referents d)
 
 abbrev pub function_added : ℕ → Numbers → Numbers
-function_added d ns = record
-  referents = slice_set ns.referents d (Some (referents.Function (function_number (length ns.functions))))
-  functions = ns.functions ++ d ∷ []
-  variables = ns.variables
+function_added d ns =
+    record { referents = slice_set ns.referents d (Some (referents.Function (function_number (length ns.functions)))); functions = ns.functions ++ d ∷ []; variables = ns.variables }
 
 abbrev pub variable_added : ℕ → Numbers → Numbers
-variable_added d ns = record
-  referents = slice_set ns.referents d (Some (referents.Variable (variable_number (length ns.variables))))
-  functions = ns.functions
-  variables = ns.variables ++ d ∷ []
+variable_added d ns =
+    record { referents = slice_set ns.referents d (Some (referents.Variable (variable_number (length ns.variables)))); functions = ns.functions; variables = ns.variables ++ d ∷ [] }
 
 -- the declaration declares what the first one does
 abbrev pub shared : ℕ → ℕ → Numbers → Numbers

@@ -24,11 +24,3 @@ mod uses;
 
 pub use fault::{LinkFault, Names};
 pub use join::link;
-
-#[cfg(test)]
-mod tests {
-    #[test]
-    fn runs(rt: HostRuntime) {
-        assert!(rt; 1 == 1);
-    }
-}

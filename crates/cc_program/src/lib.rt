@@ -14,11 +14,3 @@ pub use file::FileEntry;
 pub use function::{FuncId, Function, FunctionKind};
 pub use program::{Program, Referent};
 pub use variable::{VarId, Variable};
-
-#[cfg(test)]
-mod tests {
-    #[test]
-    fn runs(rt: HostRuntime) {
-        assert!(rt; 1 == 1);
-    }
-}
