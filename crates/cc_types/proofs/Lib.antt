@@ -7,3 +7,5 @@ pub mod Interned
 pub mod MeasuredStructs
 pub mod ListedDepths
 pub mod DeepStructs
+pub mod NumberedTexts
+pub mod ReadLists
