@@ -65,12 +65,12 @@ fn end_file(
 ) -> Option<Fault>
     ensures { result ≡ spec.end_file types.now declared.now definitions.now file unit.now.structs unit.now.outers least }
 {
-    let mut now = least;
+    let mut so_far = least;
     for outer in unit.outers.as_slice() {
         let broken = end_one(types, declared, definitions, &unit.structs, outer);
-        now = noted(now, broken, file, outer.spot);
+        so_far = noted(so_far, broken, file, outer.spot);
     }
-    now
+    so_far
 }
 
 /// The least fault of K9.

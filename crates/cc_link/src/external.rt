@@ -110,8 +110,8 @@ fn link_one<'a>(
     file: FileId,
     outer: &Outer,
 ) -> Result<Option<Fault>, Memory>
-    ensures { IfOk result (λ now.
-        (links.new, now) ≡ spec.linked_one types.now texts.now definitions.now file outer.now (links.old, least)) }
+    ensures { IfOk result (λ found.
+        (links.new, found) ≡ spec.linked_one types.now texts.now definitions.now file outer.now (links.old, least)) }
 {
     if is_external(outer) {
         let name = text_at(texts, outer.declaration);
@@ -133,14 +133,14 @@ fn link_file<'a>(
     file: FileId,
     outers: &[Outer],
 ) -> Result<Option<Fault>, Memory>
-    ensures { IfOk result (λ now.
-        (links.new, now) ≡ spec.linked_file types.now texts.now definitions.now file outers.now (links.old, least)) }
+    ensures { IfOk result (λ found.
+        (links.new, found) ≡ spec.linked_file types.now texts.now definitions.now file outers.now (links.old, least)) }
 {
-    let mut now = least;
+    let mut so_far = least;
     for outer in outers {
-        now = link_one(links, types, texts, definitions, now, file, outer)?;
+        so_far = link_one(links, types, texts, definitions, so_far, file, outer)?;
     }
-    Ok(now)
+    Ok(so_far)
 }
 
 /// Takes down the names with external linkage of all files, in project order. The answer is the least fault of K1 and K2.

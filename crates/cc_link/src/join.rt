@@ -11,7 +11,7 @@ use crate::structs::whole_structs;
 use crate::tables;
 use crate::tags::{Tags, link_tags};
 use crate::typedefs::link_typedefs;
-use crate::uses::use_all;
+use crate::uses::{all_called, use_all};
 use cc_arena::Arena;
 use cc_base::{List, Memory, Text};
 use cc_program::{FileEntry, FuncId, Function, Program, Variable};
@@ -117,7 +117,8 @@ fn joined(
     )?;
     let named = name_faults(alloc, symbols, units)?;
     let ended = end_files(&symbols.types, &symbols.declared, &definitions, units);
-    let used = use_all(symbols, &standings, arena, units);
+    let called = all_called(alloc, arena)?;
+    let used = use_all(symbols, &standings, &called, arena, units);
     no_fault(lesser(lesser(external, named), lesser(ended, used)))?;
     no_name_fault(check_all_names(
         &links,

@@ -74,8 +74,8 @@ fn link_one(
     structs: &Structs,
     completed: &Completed,
 ) -> Result<Option<Fault>, Memory>
-    ensures { IfOk result (λ now.
-        (tags.new, now) ≡ spec.tag_one file structs.now completed.now (tags.old, least)) }
+    ensures { IfOk result (λ found.
+        (tags.new, found) ≡ spec.tag_one file structs.now completed.now (tags.old, least)) }
 {
     if structs.is_tagged(completed.id) {
         let broken = tags.tell(alloc, completed.id, structs.members(completed.id))?;
@@ -93,14 +93,14 @@ fn link_file(
     file: FileId,
     unit: &CheckedUnit,
 ) -> Result<Option<Fault>, Memory>
-    ensures { IfOk result (λ now.
-        (tags.new, now) ≡ spec.tag_file file unit.now.structs unit.now.completed (tags.old, least)) }
+    ensures { IfOk result (λ found.
+        (tags.new, found) ≡ spec.tag_file file unit.now.structs unit.now.completed (tags.old, least)) }
 {
-    let mut now = least;
+    let mut so_far = least;
     for completed in unit.completed.as_slice() {
-        now = link_one(alloc, tags, now, file, &unit.structs, completed)?;
+        so_far = link_one(alloc, tags, so_far, file, &unit.structs, completed)?;
     }
-    Ok(now)
+    Ok(so_far)
 }
 
 /// Goes over the structs of all files, in project order. The answer is the least fault of K4.

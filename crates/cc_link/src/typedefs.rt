@@ -42,8 +42,8 @@ fn link_one<'a>(
     file: FileId,
     outer: &Outer,
 ) -> Result<Option<Fault>, Memory>
-    ensures { IfOk result (λ now.
-        (names.new, now) ≡ spec.typedef_one texts.now file outer.now (names.old, least)) }
+    ensures { IfOk result (λ found.
+        (names.new, found) ≡ spec.typedef_one texts.now file outer.now (names.old, least)) }
 {
     match outer.form {
         Form::Typedef => {
@@ -62,14 +62,14 @@ fn link_file<'a>(
     file: FileId,
     outers: &[Outer],
 ) -> Result<Option<Fault>, Memory>
-    ensures { IfOk result (λ now.
-        (names.new, now) ≡ spec.typedef_file texts.now file outers.now (names.old, least)) }
+    ensures { IfOk result (λ found.
+        (names.new, found) ≡ spec.typedef_file texts.now file outers.now (names.old, least)) }
 {
-    let mut now = least;
+    let mut so_far = least;
     for outer in outers {
-        now = link_one(names, texts, now, file, outer)?;
+        so_far = link_one(names, texts, so_far, file, outer)?;
     }
-    Ok(now)
+    Ok(so_far)
 }
 
 /// Goes over the typedef names of all files, in project order. The answer is the least fault of K5.
