@@ -34,7 +34,18 @@ pub(crate) fn file_with(files: &[FileEntry], node: u32) -> FileId
         if file.has(node) {
             return FileId(number);
         }
-        number = number.saturating_add(1);
+        number = next(number);
     }
     FileId(0)
+}
+
+// The number after this one, where 2^32 - 1 stands for that many or more.
+fn next(number: u32) -> u32
+    ensures { result ≡ spec.next number }
+{
+    if number < u32::MAX {
+        number + 1
+    } else {
+        number
+    }
 }
