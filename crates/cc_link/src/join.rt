@@ -1,19 +1,13 @@
 // From checked files to a program.
-use crate::callable::{NameFault, check_all_names};
-use crate::definitions::definitions;
-use crate::ends::end_files;
-use crate::external::{link_files, mark_all};
-use crate::fault::{Fault, LinkFault, lesser};
-use crate::linked::Links;
+use crate::fault::LinkFault;
 use crate::numbers::{Numbers, all_numbers};
-use crate::standing::{Standings, standings};
-use crate::structs::whole_structs;
 use crate::tables;
-use crate::tags::{Tags, link_tags};
-use crate::typedefs::link_typedefs;
-use crate::uses::{all_called, use_all};
 use cc_arena::Arena;
 use cc_base::{List, Memory, Text};
+use cc_link_rules::{
+    Fault, Links, NameFault, Standings, Tags, all_called, check_all_names, definitions, end_files, lesser, link_files, link_tags,
+    link_typedefs, mark_all, standings, use_all, whole_structs,
+};
 use cc_program::{FileEntry, FuncId, Function, Program, Variable};
 use cc_project::Project;
 use cc_symbols::{CheckedUnit, Known, Symbols};

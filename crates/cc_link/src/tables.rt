@@ -1,10 +1,8 @@
 // The tables of a program.
-use crate::fault::next;
-use crate::linked::{Links, text_at};
 use crate::numbers::{Numbers, declared_at};
-use crate::standing::{Standings, standing_at};
 use cc_arena::{Arena, Node};
 use cc_base::{List, Memory, Text};
+use cc_link_rules::{Links, Standings, next, standing_at, text_at};
 use cc_program::{FileEntry, FuncId, Function, FunctionKind, Referent, VarId, Variable};
 use cc_project::{ProjectFile, TextList};
 use cc_symbols::{CHAR, CheckedUnit, Declared, Form, Life, Slots, Symbols};
