@@ -5,8 +5,8 @@ use crate::tables;
 use cc_arena::Arena;
 use cc_base::{List, Memory, Text};
 use cc_link_rules::{
-    Fault, Links, NameFault, Standings, Tags, all_called, check_all_names, definitions, end_files, lesser, link_files, link_tags,
-    link_typedefs, mark_all, standings, use_all, whole_structs,
+    Fault, Links, NameFault, Standings, Tags, all_called, check_all_names, definitions, end_files,
+    lesser, link_files, link_tags, link_typedefs, mark_all, standings, use_all, whole_structs,
 };
 use cc_program::{FileEntry, FuncId, Function, Program, Variable};
 use cc_project::Project;

@@ -9,7 +9,6 @@ mod join;
 mod numbers;
 mod tables;
 
-pub use cc_link_rules::Names;
-pub use cc_link_rules::rule;
+pub use cc_link_rules::{Names, rule};
 pub use fault::LinkFault;
 pub use join::link;

@@ -6,7 +6,6 @@ use cc_link_rules::{Links, Standings, next, standing_at, text_at};
 use cc_program::{FileEntry, FuncId, Function, FunctionKind, Referent, VarId, Variable};
 use cc_project::{ProjectFile, TextList};
 use cc_symbols::{CHAR, CheckedUnit, Declared, Form, Life, Slots, Symbols};
-use cc_tree_copies::copied_text;
 use std::alloc::Global;
 
 fn copied(alloc: Global, text: &str) -> Result<Text, Memory> {
@@ -212,7 +211,7 @@ fn file_entry(
     units: &[CheckedUnit],
     number: u32,
 ) -> Result<FileEntry, Memory> {
-    let name = copied_text(alloc, &file.name)?;
+    let name = copied(alloc, file.name.as_str())?;
     let component = file.component;
     let (start, end) = match units.get(number as usize) {
         Some(unit) => (unit.start, unit.end),
@@ -245,7 +244,7 @@ pub fn files(
 pub fn copied_texts(alloc: Global, texts: &TextList) -> Result<List<Text>, Memory> {
     let mut copy = List::new(alloc);
     for text in texts.as_slice() {
-        copy.push(copied_text(alloc, text)?)?;
+        copy.push(copied(alloc, text.as_str())?)?;
     }
     Ok(copy)
 }

@@ -2,7 +2,7 @@
 ghost use Rattle.std.specs.Prelude.{◌≡◌};
 ghost use Rattle.cc_link_rules.specs.Ends as spec;
 
-use crate::definitions::{Definitions, definition_here};
+use crate::defining::{Definitions, definition_here};
 use crate::fault::{Fault, broken_if, next_file, noted};
 use crate::rule;
 use cc_base::FileId;

@@ -2,7 +2,7 @@
 ghost use Rattle.std.specs.Prelude.{◌≡◌, OnOk, IfOk, IfSome};
 ghost use Rattle.cc_link_rules.specs.External as spec;
 
-use crate::definitions::{Definitions, definition_here};
+use crate::defining::{Definitions, definition_here};
 use crate::fault::{Fault, broken_if, next_file, noted};
 use crate::linked::{Linked, Links, text_at};
 use crate::rule;

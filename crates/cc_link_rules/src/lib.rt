@@ -7,7 +7,7 @@
 #![tactic(auto)]
 
 mod callable;
-mod definitions;
+mod defining;
 mod ends;
 mod external;
 mod fault;
@@ -20,7 +20,7 @@ mod typedefs;
 mod uses;
 
 pub use callable::{NameFault, check_all_names};
-pub use definitions::{Definitions, definitions};
+pub use defining::{Definitions, definitions};
 pub use ends::end_files;
 pub use external::{link_files, mark_all};
 pub use fault::{Fault, Names, lesser, next};

@@ -2,7 +2,7 @@
 ghost use Rattle.std.specs.Prelude.{◌≡◌, IfOk};
 ghost use Rattle.cc_link_rules.specs.Standings as spec;
 
-use crate::definitions::{Definitions, definition_of};
+use crate::defining::{Definitions, definition_of};
 use crate::fault::next;
 use crate::linked::{Linked, Links, text_at};
 use cc_base::{List, Memory, Text};
