@@ -1,5 +1,5 @@
 -- The structs of a file, by number.
-use Rattle.std.specs.Prelude.{ℕ, ◌+◌, Bool, false, not, ◌&&◌, ◌||◌, nat_eq, if◌then◌else◌, List, [], ◌∷◌, ◌++◌, length, Option, Some, None, bytes_eq, slice_set}
+use Rattle.std.specs.Prelude.{ℕ, ◌+◌, Bool, false, not, ◌&&◌, ◌||◌, nat_eq, if◌then◌else◌, List, [], ◌∷◌, ◌++◌, length, map, Option, Some, None, bytes_eq, slice_set}
 use Rattle.cc_tree.specs.declared.ids.StructId.{StructId}
 use Rattle.cc_types.specs.declared.measure.Measure.{Measure}
 use Rattle.cc_types.specs.declared.structs.StructEntry.{StructEntry}
@@ -23,6 +23,10 @@ struct_number n = record { 0 = n }
 -- the structs with one more, which has no members as yet, and its number
 abbrev pub added : List StructEntry → Bool → ℕ → List StructEntry × StructId
 added es is_tagged token = (es ++ declared_entry is_tagged token ∷ [], struct_number (length es))
+
+-- the structs without their members, for the next file
+abbrev pub renewed : List StructEntry → List StructEntry
+renewed es = map (λ e. declared_entry e.is_tagged e.token) es
 
 abbrev pub is_complete : List StructEntry → StructId → Bool
 is_complete es id = (entry_of es id).measure.is_complete

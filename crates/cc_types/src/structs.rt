@@ -82,6 +82,17 @@ impl Structs {
         Ok(StructId(number as u32))
     }
 
+    /// The same structs, none of which has its members as yet: with them the next file of the project begins.
+    pub fn renewed(&self, alloc: Global) -> Result<Structs, Memory>
+        ensures { IfOk result (λ structs. structs ≡ spec.renewed self.now) }
+    {
+        let mut structs = Structs::new(alloc);
+        for entry in self.entries.as_slice() {
+            structs.add(alloc, entry.is_tagged, entry.token)?;
+        }
+        Ok(structs)
+    }
+
     // What is measured of a struct.
     fn kept(&self, id: StructId) -> Measure
         ensures { result ≡ (measures.entry_of self.now id).measure }
