@@ -1,7 +1,7 @@
 // Why the call gives up before it has a text.
 ghost use Rattle.std.specs.Prelude.{◌≡◌, IfOk, string_bytes};
 
-use cc_base::{Spot, Text};
+use cc_base::{Memory, Spot, Text};
 use cc_front::Fault;
 use std::alloc::{AllocError, Global};
 
@@ -51,6 +51,16 @@ impl From<AllocError> for Refusal {
     ghost from_gives = { λ _ e. e ≡ Memory };
 
     fn from(_: AllocError) -> Refusal {
+        Refusal::Memory
+    }
+}
+
+impl From<Memory> for Refusal {
+    ghost use Rattle.cc_top.specs.declared.refusal.Refusal.TheVariants.{Memory};
+
+    ghost from_gives = { λ _ e. e ≡ Memory };
+
+    fn from(_: Memory) -> Refusal {
         Refusal::Memory
     }
 }
