@@ -5,10 +5,11 @@
 //! program. It stops at the first step that is refused, and [`FrontFault`] says why. `docs/front.md` has the chapter.
 #![tactic(auto)]
 
+mod built;
 mod fault;
 mod files;
-mod front;
 mod tree;
 
+pub use built::{Built, front};
+pub use cc_link::Names;
 pub use fault::{Fault, FrontFault};
-pub use front::{Front, front};

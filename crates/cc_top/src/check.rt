@@ -1,17 +1,28 @@
 // The steps of `check`, in their order.
-ghost use Rattle.std.specs.Prelude.{◌≡◌, ◌≢◌, IfErr, IfOk, IfSome};
+//
+// Each step that reads the shelf says what those of `list` say (the module `steps`).
+ghost use Rattle.std.specs.Prelude.{◌≡◌, ◌≢◌, ◌≤◌, ℕ, All, IfErr, IfOk, IfSome, length, string_bytes};
+ghost use Rattle.cc_project.specs.Outcome.{IsFault};
+ghost use Rattle.cc_project.specs.WellMade.{file_names_of};
+ghost use Rattle.cc_top.specs.Answer.{AfterFiles, OfCheck, OfChecked, counts_line};
+ghost use Rattle.cc_top.specs.Counts.{Caused, NoneFalls, counts_of};
+ghost use Rattle.cc_top.specs.Holds.{IsShort};
+ghost use Rattle.cc_top.specs.Reads.{IsReached};
+ghost use Rattle.cc_top.specs.Refusal.{FaultNames, IsOfInput, RefusesProject, status_of};
+ghost use Rattle.cc_top.specs.Tells.{IsNamedToCheck, Tells};
 
 use crate::reading::{read_files, text_of};
 use crate::refusal::{At, Refusal};
-use cc_base::{List, Spot, Text};
-use cc_front::{Front, FrontFault, front};
+use cc_base::{List, Text};
+use cc_front::{Built, FrontFault, Names, front};
 use cc_io::{ByteList, Shelf};
-use cc_link::Names;
 use cc_project::{Project, ProjectFault, read_project};
 use std::alloc::{AllocError, Global};
 
 // Why the bytes of a file of this name are no project.
-fn of_project(alloc: Global, name: &str, fault: ProjectFault) -> Refusal {
+fn of_project(alloc: Global, name: &str, fault: ProjectFault) -> Refusal
+    ensures { RefusesProject name.now fault result }
+{
     let name = match text_of(alloc, name) {
         Ok(name) => name,
         Err(_) => return Refusal::Memory,
@@ -24,7 +35,9 @@ fn of_project(alloc: Global, name: &str, fault: ProjectFault) -> Refusal {
 }
 
 // A copy of the text of this number; the refusal that says that there is none.
-fn copy_at(alloc: Global, texts: &[Text], number: u32) -> Result<Text, Refusal> {
+fn copy_at(alloc: Global, texts: &[Text], number: u32) -> Result<Text, Refusal>
+    ensures { IfErr result IsOfInput }
+{
     match texts.get(number as usize) {
         Some(text) => Ok(text_of(alloc, text.as_str())?),
         None => Err(Refusal::Internal),
@@ -32,7 +45,9 @@ fn copy_at(alloc: Global, texts: &[Text], number: u32) -> Result<Text, Refusal> 
 }
 
 // A copy of the name of the file of this number.
-fn file_name(alloc: Global, project: &Project, file: u32) -> Result<Text, Refusal> {
+fn file_name(alloc: Global, project: &Project, file: u32) -> Result<Text, Refusal>
+    ensures { IfErr result IsOfInput }
+{
     match project.files.as_slice().get(file as usize) {
         Some(file) => Ok(text_of(alloc, file.name.as_str())?),
         None => Err(Refusal::Internal),
@@ -40,7 +55,9 @@ fn file_name(alloc: Global, project: &Project, file: u32) -> Result<Text, Refusa
 }
 
 // A copy of the name of the test of this number.
-fn test_name(alloc: Global, project: &Project, test: u32) -> Result<Text, Refusal> {
+fn test_name(alloc: Global, project: &Project, test: u32) -> Result<Text, Refusal>
+    ensures { IfErr result IsOfInput }
+{
     match project.tests.as_slice().get(test as usize) {
         Some(test) => Ok(text_of(alloc, test.name.as_str())?),
         None => Err(Refusal::Internal),
@@ -54,7 +71,10 @@ fn of_name(
     list: Names,
     index: u32,
     rule: u8,
-) -> Result<Refusal, Refusal> {
+) -> Result<Refusal, Refusal>
+    ensures ok { IfOk result IsOfInput }
+    ensures err { IfErr result IsOfInput }
+{
     match list {
         Names::Entries => {
             let name = copy_at(alloc, project.entries.as_slice(), index)?;
@@ -68,7 +88,10 @@ fn of_name(
 }
 
 // The refusal that a fault of the front end is; an `Err` is one too.
-fn of_fault(alloc: Global, project: &Project, fault: FrontFault) -> Result<Refusal, Refusal> {
+fn of_fault(alloc: Global, project: &Project, fault: FrontFault) -> Result<Refusal, Refusal>
+    ensures ok { IfOk result IsOfInput }
+    ensures err { IfErr result IsOfInput }
+{
     match fault {
         FrontFault::At { file, spot, fault } => {
             let file = file_name(alloc, project, file)?;
@@ -85,7 +108,9 @@ fn of_fault(alloc: Global, project: &Project, fault: FrontFault) -> Result<Refus
 }
 
 // Why files make no program with tests.
-fn of_front(alloc: Global, project: &Project, fault: FrontFault) -> Refusal {
+fn of_front(alloc: Global, project: &Project, fault: FrontFault) -> Refusal
+    ensures { IsOfInput result }
+{
     match of_fault(alloc, project, fault) {
         Ok(refusal) => refusal,
         Err(refusal) => refusal,
@@ -93,11 +118,14 @@ fn of_front(alloc: Global, project: &Project, fault: FrontFault) -> Refusal {
 }
 
 // The line of `check`.
-fn counts(alloc: Global, project: &Project, front: &Front) -> Result<String, AllocError> {
+fn counts(alloc: Global, project: &Project, built: &Built) -> Result<String, AllocError>
+    ensures { IfOk result (λ text. (functions : ℕ) × (objects : ℕ)
+        × (string_bytes text ≡ counts_line project.now functions objects)) }
+{
     let components = project.components.len();
     let files = project.files.len();
-    let functions = front.program.defined_functions();
-    let objects = front.program.static_objects();
+    let functions = built.defined_functions();
+    let objects = built.static_objects();
     let tests = project.tests.len();
     format!(in alloc;
         "ok components {components} files {files} functions {functions} objects {objects} tests {tests}\n")
@@ -108,9 +136,14 @@ fn files_checked(
     alloc: Global,
     project: &Project,
     files: &List<ByteList>,
-) -> Result<Vec<u8>, Refusal> {
+) -> Result<Vec<u8>, Refusal>
+    requires few { length files.now ≤ 64 }
+    requires short { All IsShort files.now }
+    ensures told { Tells (OfChecked project.now files.now) result }
+    ensures input { IfErr result IsOfInput }
+{
     match front(alloc, project, files) {
-        Ok(front) => Ok(counts(alloc, project, &front)?.into_bytes()),
+        Ok(built) => Ok(counts(alloc, project, &built)?.into_bytes()),
         Err(fault) => Err(of_front(alloc, project, fault)),
     }
 }
@@ -120,9 +153,21 @@ fn project_checked<S: Shelf>(
     alloc: Global,
     shelf: &mut S,
     project: &Project,
-) -> Result<Vec<u8>, Refusal> {
-    match read_files(alloc, shelf, project.files.as_slice(), List::new(alloc)) {
-        Ok(files) => files_checked(alloc, project, &files),
+) -> Result<Vec<u8>, Refusal>
+    ensures keeps { S.files shelf.new ≡ S.files shelf.old }
+    ensures none_falls { NoneFalls (counts_of (S.faults shelf.old) (S.misses shelf.old) (S.longs shelf.old))
+        (counts_of (S.faults shelf.new) (S.misses shelf.new) (S.longs shelf.new)) }
+    ensures told { IfSome (S.files shelf.old) (λ files.
+        Tells (AfterFiles files (file_names_of project.now.files) (OfChecked project.now)) result) }
+    ensures caused { IfErr result (Caused (counts_of (S.faults shelf.old) (S.misses shelf.old) (S.longs shelf.old))
+        (counts_of (S.faults shelf.new) (S.misses shelf.new) (S.longs shelf.new))) }
+    ensures kind { IfErr result (λ refusal. status_of refusal ≢ 2) }
+    ensures names { IfSome (S.files shelf.old) (λ files. IfErr result
+        (FaultNames (IsReached files (file_names_of project.now.files)))) }
+{
+    let mut files = List::new(alloc);
+    match read_files(alloc, shelf, project.files.as_slice(), &mut files) {
+        Ok(()) => files_checked(alloc, project, &files),
         Err(refusal) => Err(refusal),
     }
 }
@@ -133,7 +178,16 @@ pub fn document_checked<S: Shelf>(
     shelf: &mut S,
     name: &str,
     bytes: &[u8],
-) -> Result<Vec<u8>, Refusal> {
+) -> Result<Vec<u8>, Refusal>
+    ensures keeps { S.files shelf.new ≡ S.files shelf.old }
+    ensures none_falls { NoneFalls (counts_of (S.faults shelf.old) (S.misses shelf.old) (S.longs shelf.old))
+        (counts_of (S.faults shelf.new) (S.misses shelf.new) (S.longs shelf.new)) }
+    ensures told { IfSome (S.files shelf.old) (λ files. Tells (OfCheck files name.now bytes.now) result) }
+    ensures caused { IfErr result (Caused (counts_of (S.faults shelf.old) (S.misses shelf.old) (S.longs shelf.old))
+        (counts_of (S.faults shelf.new) (S.misses shelf.new) (S.longs shelf.new))) }
+    ensures kind { IfErr result (λ refusal. status_of refusal ≢ 2) }
+    ensures names { IfSome (S.files shelf.old) (λ files. IfErr result (FaultNames (IsNamedToCheck files bytes.now))) }
+{
     match read_project(alloc, bytes) {
         Ok(project) => project_checked(alloc, shelf, &project),
         Err(fault) => Err(of_project(alloc, name, fault)),

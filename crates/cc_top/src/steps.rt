@@ -3,18 +3,17 @@
 // Each step that reads the shelf says this: the files stay (`keeps`), no count falls (`none_falls`), a refusal to read
 // comes only where its count rose (`caused`), and over a shelf that tells its files what the text or the refusal stands
 // for is what the definitions allow (`told`), and a read fault names a file that they read (`names`).
-ghost use Rattle.std.specs.Prelude.{◌≡◌, ◌≢◌, ◌↔◌, ◌≤◌, ◌<◌, ℕ, List, Err, Some, IfErr, IfNone, IfOk, IfSome, length, map, string_bytes};
-ghost use Rattle.std.specs.FinMap.{get};
-ghost use Rattle.cc_top.specs.Answer.{AfterRead, IsAnswer, OfFiles, OfProgram, OfProject};
+ghost use Rattle.std.specs.Prelude.{◌≡◌, ◌≢◌, ◌↔◌, ◌≤◌, ◌<◌, List, Err, IfErr, IfOk, IfSome, length, map, string_bytes};
+ghost use Rattle.cc_top.specs.Answer.{AfterRead, IsAnswer, OfCheck, OfFiles, OfProgram, OfProject};
 ghost use Rattle.cc_top.specs.Reads.{Reads};
 ghost use Rattle.cc_first.specs.Project.{IsProject, IsWell, Project as ProjectData};
 ghost use Rattle.cc_top.specs.Counts.{Caused, NoneFalls, counts_of};
-ghost use Rattle.cc_top.specs.Refusal.{FaultNames, IsOfForm, RefusesForm, RefusesRead, status_of};
-ghost use Rattle.cc_top.specs.Tells.{IsFileName, IsNamed, Tells};
+ghost use Rattle.cc_top.specs.Refusal.{FaultNames, IsOfForm, RefusesForm, status_of};
+ghost use Rattle.cc_top.specs.Tells.{IsFileName, IsNamed, IsReadToCheck, IsReadToList, Tells};
 ghost use Rattle.cc_first.specs.Unit.{HaveFreeNames, IsUnit, Part as PartData, program_of};
 ghost use Rattle.cc_first.specs.Views.{parts_view, project_view};
 ghost use Rattle.cc_first.specs.Limit.{limit};
-ghost use Rattle.cc_top.specs.Words.{list_words};
+ghost use Rattle.cc_top.specs.Words.{IsNoCommand};
 
 use crate::check::document_checked;
 use crate::reading::{read_file, text_of};
@@ -176,6 +175,14 @@ fn document_listing<S: Shelf>(
 
 // The table of the project of this name.
 fn listed<S: Shelf>(alloc: Global, shelf: &mut S, name: &str) -> Result<Vec<u8>, Refusal>
+    ensures keeps { S.files shelf.new ≡ S.files shelf.old }
+    ensures none_falls { NoneFalls (counts_of (S.faults shelf.old) (S.misses shelf.old) (S.longs shelf.old))
+        (counts_of (S.faults shelf.new) (S.misses shelf.new) (S.longs shelf.new)) }
+    ensures told { IfSome (S.files shelf.old) (λ files. Tells (AfterRead files name.now (OfProject files name.now)) result) }
+    ensures caused { IfErr result (Caused (counts_of (S.faults shelf.old) (S.misses shelf.old) (S.longs shelf.old))
+        (counts_of (S.faults shelf.new) (S.misses shelf.new) (S.longs shelf.new))) }
+    ensures kind { IfErr result (λ refusal. status_of refusal ≢ 2) }
+    ensures names { IfSome (S.files shelf.old) (λ files. IfErr result (FaultNames (IsReadToList files name.now))) }
 {
     match read_file(alloc, shelf, name) {
         Ok(file) => document_listing(alloc, shelf, name, file.bytes()),
@@ -185,6 +192,14 @@ fn listed<S: Shelf>(alloc: Global, shelf: &mut S, name: &str) -> Result<Vec<u8>,
 
 // The counts of the project of this name.
 fn checked<S: Shelf>(alloc: Global, shelf: &mut S, name: &str) -> Result<Vec<u8>, Refusal>
+    ensures keeps { S.files shelf.new ≡ S.files shelf.old }
+    ensures none_falls { NoneFalls (counts_of (S.faults shelf.old) (S.misses shelf.old) (S.longs shelf.old))
+        (counts_of (S.faults shelf.new) (S.misses shelf.new) (S.longs shelf.new)) }
+    ensures told { IfSome (S.files shelf.old) (λ files. Tells (AfterRead files name.now (OfCheck files name.now)) result) }
+    ensures caused { IfErr result (Caused (counts_of (S.faults shelf.old) (S.misses shelf.old) (S.longs shelf.old))
+        (counts_of (S.faults shelf.new) (S.misses shelf.new) (S.longs shelf.new))) }
+    ensures kind { IfErr result (λ refusal. status_of refusal ≢ 2) }
+    ensures names { IfSome (S.files shelf.old) (λ files. IfErr result (FaultNames (IsReadToCheck files name.now))) }
 {
     match read_file(alloc, shelf, name) {
         Ok(file) => document_checked(alloc, shelf, name, file.bytes()),
@@ -208,8 +223,7 @@ pub fn text_for<S: Shelf>(
         (counts_of (S.faults shelf.new) (S.misses shelf.new) (S.longs shelf.new))) }
     ensures names { IfSome (S.files shelf.old) (λ files. IfErr result
         (FaultNames (Reads (map string_bytes words.now) files))) }
-    ensures usage { (result ≡ Err Refusal.Usage)
-        ↔ ((project : List ℕ) → map string_bytes words.now ≢ list_words project) }
+    ensures usage { (result ≡ Err Refusal.Usage) ↔ IsNoCommand (map string_bytes words.now) }
     ensures untouched { result ≡ Err Refusal.Usage → shelf.new ≡ shelf.old }
 {
     match command_of(words) {

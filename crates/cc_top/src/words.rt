@@ -1,6 +1,6 @@
 // The words of a command line.
-ghost use Rattle.std.specs.Prelude.{◌≡◌, ◌≢◌, ◌∷◌, [], ℕ, List, IfNone, IfSome, map, string_bytes};
-ghost use Rattle.cc_top.specs.Words.{IsNoCommand, check_words, list_words, project_words};
+ghost use Rattle.std.specs.Prelude.{◌≡◌, ◌≢◌, ℕ, List, IfNone, IfSome, map, string_bytes};
+ghost use Rattle.cc_top.specs.Words.{IsCommand, IsNoCommand, check_words, project_words};
 
 /// What the words ask for, with the name of a project file.
 #[derive(Clone, Copy)]
@@ -33,7 +33,10 @@ fn project_word<'a>(words: &'a [String], word: &str) -> Option<&'a str>
 }
 
 // The command of words that are none that lists.
-fn other_command(words: &[String]) -> Option<Command<'_>> {
+fn other_command(words: &[String]) -> Option<Command<'_>>
+    ensures some { IfSome result (IsCommand (map string_bytes words.now)) }
+    ensures none { IfNone result ((project : List ℕ) → map string_bytes words.now ≢ check_words project) }
+{
     match project_word(words, "check") {
         Some(project) => Some(Command::Check(project)),
         None => None,
@@ -41,7 +44,10 @@ fn other_command(words: &[String]) -> Option<Command<'_>> {
 }
 
 /// The command that the words are.
-pub fn command_of(words: &[String]) -> Option<Command<'_>> {
+pub fn command_of(words: &[String]) -> Option<Command<'_>>
+    ensures some { IfSome result (IsCommand (map string_bytes words.now)) }
+    ensures none { IfNone result (IsNoCommand (map string_bytes words.now)) }
+{
     match project_word(words, "list") {
         Some(project) => Some(Command::List(project)),
         None => other_command(words),

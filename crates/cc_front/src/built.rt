@@ -14,10 +14,22 @@ use std::alloc::Global;
 
 /// The program of a project, and its tests.
 #[derive(Drop)]
-pub struct Front {
+pub struct Built {
     pub program: Program,
     /// Each call names an entry of the program, and its arguments suit.
     pub tests: TestList,
+}
+
+impl Built {
+    /// How many functions have a body.
+    pub fn defined_functions(&self) -> u32 {
+        self.program.defined_functions()
+    }
+
+    /// How many defined objects live as long as the run, those of blocks included, string literals left out.
+    pub fn static_objects(&self) -> u32 {
+        self.program.static_objects()
+    }
 }
 
 // Why the files make no program.
@@ -45,9 +57,9 @@ fn unbound(fault: TestFault) -> FrontFault {
 }
 
 // The program with the project's tests.
-fn with_tests(alloc: Global, project: &Project, program: Program) -> Result<Front, FrontFault> {
+fn with_tests(alloc: Global, project: &Project, program: Program) -> Result<Built, FrontFault> {
     match bind_tests(alloc, project, &program) {
-        Ok(tests) => Ok(Front { program, tests }),
+        Ok(tests) => Ok(Built { program, tests }),
         Err(fault) => Err(unbound(fault)),
     }
 }
@@ -63,7 +75,7 @@ pub fn front(
     alloc: Global,
     project: &Project,
     files: &List<Bytes>,
-) -> Result<Front, FrontFault>
+) -> Result<Built, FrontFault>
     requires few { length files.now ≤ 64 }
     requires small { All (λ bytes. length bytes ≤ 1048576) files.now }
 {
