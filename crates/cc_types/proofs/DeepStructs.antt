@@ -118,7 +118,7 @@ module _ (es : List StructEntry) (is_tagged : Bool) (token : ℕ) where
   more = (added es is_tagged token).0
 
   -- what holds of the entries, and of one without members, holds of all then
-  each_more : (P : StructEntry → StructEntry → Type 0) → ((e : StructEntry) → P e e) → P (declared_entry is_tagged token) (declared_entry false 0) → (other : StructId) → P (entry_of more other) (entry_of es other)
+  pub each_more : (P : StructEntry → StructEntry → Type 0) → ((e : StructEntry) → P e e) → P (declared_entry is_tagged token) (declared_entry false 0) → (other : StructId) → P (entry_of more other) (entry_of es other)
   each_more P same fresh other = by (three_ways other.0 (length es))
     where
       by : ((other.0 < length es) ⊎ (other.0 ≡ length es)) ⊎ (length es + 1 ≤ other.0) → P (entry_of more other) (entry_of es other)

@@ -32,11 +32,13 @@ impl MemberLists {
         ensures { IfOk result (λ n. (self.new, n) ≡ spec.longer self.old before member.now) }
     {
         let name = self.names.number(alloc, member.name.as_str())?;
-        self.links.number(Link {
+        let link = Link {
             before,
             name,
             kind: member.kind,
-        })
+        };
+        let number = self.links.number(link)?;
+        Ok(number)
     }
 
     /// The number of this list, in time linear in it.
