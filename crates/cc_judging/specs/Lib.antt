@@ -1,0 +1,11 @@
+pub mod Judging
+pub mod Asking
+pub mod Leaves
+pub mod Prefixes
+pub mod Comparisons
+pub mod Arithmetic
+pub mod Assignments
+pub mod Choices
+pub mod Calls
+pub mod Members
+pub mod Casts

@@ -1,0 +1,5 @@
+pub mod LookUps
+pub mod Forms
+pub mod Noting
+pub mod Checks
+pub mod Typing
