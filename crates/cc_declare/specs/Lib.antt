@@ -1,0 +1,14 @@
+pub mod Rules
+pub mod State
+pub mod Declaring
+pub mod Naming
+pub mod Shapes
+pub mod Shaping
+pub mod Enumerating
+pub mod Forms
+pub mod TypeWords
+pub mod Specifying
+pub mod Tagging
+pub mod Objects
+pub mod Members
+pub mod Parameters
