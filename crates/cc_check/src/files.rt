@@ -1,0 +1,37 @@
+// Files.
+
+use crate::declarations::declaration;
+use crate::functions::function;
+use crate::statements::Walk;
+use crate::storage::Region;
+use cc_base::Memory;
+use cc_tree::{External, FileTree};
+use cc_tree_notes::Counted;
+use std::alloc::Global;
+
+// What stands in a file.
+fn external<'a>(
+    alloc: Global,
+    walk: &mut Walk<'a>,
+    x: &'a External<Counted>,
+) -> Result<(), Memory> {
+    match x {
+        External::Declaration(d) => {
+            declaration(alloc, &mut walk.checker, Region::File, d)?;
+            Ok(())
+        }
+        External::Function(f) => function(alloc, walk, f),
+    }
+}
+
+/// All that stands in a file, in order.
+pub fn walk_file<'a>(
+    alloc: Global,
+    walk: &mut Walk<'a>,
+    file: &'a FileTree<Counted>,
+) -> Result<(), Memory> {
+    for x in file.externals.as_slice() {
+        external(alloc, walk, x)?;
+    }
+    Ok(())
+}

@@ -1,0 +1,125 @@
+// Functions with bodies.
+
+use crate::outer::{declare_linked, keep_outer, outer_declared};
+use crate::statements::{Walk, items};
+use crate::storage::{Region, check_inline, form, judged_declarator, word_of};
+use cc_base::Memory;
+use cc_declare::{Checker, Formed, Named, Setting, Specified, formals, has_unnamed, name_of};
+use cc_declare_cycle::{declarator, specifiers};
+use cc_symbols::{Form, Role, rule};
+use cc_tree::{Declarator, Function, SpecWord, TypeName};
+use cc_tree_notes::Counted;
+use cc_types::{Shape, TypeId};
+use std::alloc::Global;
+
+// Whether a function with a body can't have these parameters: one has no name (C23). A lone void without a name is none.
+fn is_short_of_names<'a>(checker: &Checker<'a>, ps: &[TypeName<Counted>]) -> bool {
+    !checker.is_void_list(ps) && has_unnamed(ps)
+}
+
+// Whether a body can't stand behind this declarator (C23): it is no function declarator of its own, or a parameter has no
+// name.
+fn is_no_head<'a>(checker: &Checker<'a>, d: &Declarator<Counted>) -> bool {
+    match formals(d) {
+        Some(ps) => is_short_of_names(checker, ps),
+        None => true,
+    }
+}
+
+// C23 at the name of what has a body.
+fn check_head<'a>(
+    checker: &mut Checker<'a>,
+    note: Counted,
+    said: Specified,
+    formed: Formed,
+    d: &Declarator<Counted>,
+) {
+    let is_broken = word_of(said) == Some(SpecWord::Typedef) || is_no_head(checker, d);
+    checker.offend_if(formed.is_judged && is_broken, note, rule::FUNCTION_BODY);
+}
+
+// C19 and C20 of a body's name that has no function type.
+fn check_other<'a>(checker: &mut Checker<'a>, note: Counted, form: Form, formed: Formed) {
+    if let Form::Object(_) = form {
+        checker.object(note, formed, true);
+    }
+}
+
+// Declares what has a body, and keeps it for linking.
+fn declare_head<'a>(
+    alloc: Global,
+    checker: &mut Checker<'a>,
+    named: Named<'a>,
+    said: Specified,
+    formed: Formed,
+) -> Result<(), Memory> {
+    let form = form(Region::File, word_of(said), checker.shape_of(formed.kind));
+    check_other(checker, named.note, form, formed);
+    let what = outer_declared(checker, named, word_of(said), form, formed.kind, true);
+    let number = declare_linked(alloc, checker, named, formed.is_judged, what)?;
+    keep_outer(checker, named, number, what, Role::Defines)
+}
+
+// The name, the rules and the declaration of what has a body.
+fn head<'a>(
+    alloc: Global,
+    checker: &mut Checker<'a>,
+    f: &'a Function<Counted>,
+) -> Result<Option<TypeId>, Memory> {
+    let said = specifiers(alloc, checker, Setting::File, f.note, f.specs.as_slice())?;
+    let formed = declarator(alloc, checker, said.kind, true, &f.declarator)?;
+    check_head(checker, f.note, said, formed, &f.declarator);
+    let form = form(Region::File, word_of(said), checker.shape_of(formed.kind));
+    check_inline(checker, f.note, said, judged_declarator(formed, form, true));
+    if let Some(named) = name_of(&f.declarator) {
+        declare_head(alloc, checker, named, said, formed)?;
+    }
+    Ok(formed.kind)
+}
+
+// The type of what a function gives.
+fn returned_by<'a>(checker: &Checker<'a>, kind: Option<TypeId>) -> Option<TypeId> {
+    match kind {
+        Some(kind) => returned_by_type(checker, kind),
+        None => None,
+    }
+}
+
+// The type of what a function of this type gives: it stands behind the parameters, each of which has a number of its own.
+fn returned_by_type<'a>(checker: &Checker<'a>, kind: TypeId) -> Option<TypeId> {
+    let mut rest = kind;
+    for _ in 0..kind.0 {
+        match checker.symbols.types.shape(rest) {
+            Shape::Takes(_, others) => rest = others,
+            Shape::Function(value) => return Some(value),
+            _ => return None,
+        }
+    }
+    None
+}
+
+// The formals of what has a body, in the scope of the body.
+fn declare_formals<'a>(
+    checker: &mut Checker<'a>,
+    d: &'a Declarator<Counted>,
+) -> Result<(), Memory> {
+    match formals(d) {
+        Some(ps) => checker.declare_formals(ps),
+        None => Ok(()),
+    }
+}
+
+/// A function with its body: its formals and the names of the body's block are in one scope (C17 6.2.1, paragraph 4).
+pub fn function<'a>(
+    alloc: Global,
+    walk: &mut Walk<'a>,
+    f: &'a Function<Counted>,
+) -> Result<(), Memory> {
+    let kind = head(alloc, &mut walk.checker, f)?;
+    let returned = returned_by(&walk.checker, kind);
+    walk.checker.enter()?;
+    declare_formals(&mut walk.checker, &f.declarator)?;
+    items(alloc, walk, returned, f.body.items.as_slice())?;
+    walk.checker.leave();
+    Ok(())
+}

@@ -1,0 +1,128 @@
+// Storage classes, `inline`, and what they make of a declarator.
+
+use cc_declare::{Checker, Formed, Setting, Specified, Storage};
+use cc_symbols::{Form, Life, rule};
+use cc_tree::{Init, SpecWord};
+use cc_tree_notes::Counted;
+use cc_types::Shape;
+
+/// Where a declaration stands.
+#[derive(Clone, Copy, PartialEq, Eq)]
+pub enum Region {
+    File,
+    Block,
+    /// The first clause of a `for`.
+    Clause,
+}
+
+/// What is judged of declarators together, for the rules on their declaration.
+#[derive(Clone, Copy)]
+pub struct Judged {
+    /// Whether all specifiers, lengths, parameters and initialisers have types.
+    pub is_typed: bool,
+    /// Whether each declares a function.
+    pub is_function: bool,
+}
+
+impl Judged {
+    /// These and those.
+    pub fn and(self, other: Judged) -> Judged {
+        Judged {
+            is_typed: self.is_typed && other.is_typed,
+            is_function: self.is_function && other.is_function,
+        }
+    }
+}
+
+/// Where its specifiers stand.
+pub fn setting(region: Region) -> Setting {
+    match region {
+        Region::File => Setting::File,
+        Region::Block | Region::Clause => Setting::Block,
+    }
+}
+
+/// The storage class among the specifiers.
+pub fn word_of(said: Specified) -> Option<SpecWord> {
+    match said.storage {
+        Some(storage) => Some(storage.word),
+        None => None,
+    }
+}
+
+/// How long an object lives that is declared in a region with this storage class (C17 6.2.4).
+pub fn life(region: Region, storage: Option<SpecWord>) -> Life {
+    match (region, storage) {
+        (Region::File, _) | (_, Some(SpecWord::Static | SpecWord::Extern)) => Life::Static,
+        _ => Life::Local,
+    }
+}
+
+/// What a declarator of this type declares.
+pub fn form(region: Region, storage: Option<SpecWord>, shape: Option<Shape>) -> Form {
+    match (storage, shape) {
+        (Some(SpecWord::Typedef), _) => Form::Typedef,
+        (_, Some(Shape::Function(_) | Shape::Takes(_, _))) => Form::Function,
+        _ => Form::Object(life(region, storage)),
+    }
+}
+
+// Whether a storage class may not stand in a region: none in a `for`, and `extern` not in a block (C24).
+fn is_misplaced(region: Region, word: SpecWord) -> bool {
+    match region {
+        Region::File => false,
+        Region::Block => word == SpecWord::Extern,
+        Region::Clause => true,
+    }
+}
+
+// Whether one of these declarators has an initialiser.
+fn is_one_given(inits: &[Init<Counted>]) -> bool {
+    let mut is_given = false;
+    for init in inits {
+        is_given = is_given || init.value.is_some();
+    }
+    is_given
+}
+
+/// C24 at the storage class: where it may not stand, and at `extern` with an initialiser.
+pub fn check_storage<'a>(
+    checker: &mut Checker<'a>,
+    region: Region,
+    storage: Option<Storage>,
+    inits: &[Init<Counted>],
+) {
+    if let Some(storage) = storage {
+        let is_extern = storage.word == SpecWord::Extern;
+        let is_broken = is_misplaced(region, storage.word) || is_extern && is_one_given(inits);
+        checker.offend_if(is_broken, storage.note, rule::STORAGE_CLASS);
+    }
+}
+
+/// C16 at a declaration, where it has types: `inline` stands with `static`, and on functions alone.
+pub fn check_inline<'a>(
+    checker: &mut Checker<'a>,
+    note: Counted,
+    said: Specified,
+    judged: Judged,
+) {
+    let is_allowed = word_of(said) == Some(SpecWord::Static) && judged.is_function;
+    let is_broken = said.inline.is_some() && judged.is_typed && !is_allowed;
+    checker.offend_if(is_broken, note, rule::INLINE);
+}
+
+/// What is judged of the specifiers alone: they declare a function where declarators follow.
+pub fn judged_specifiers(said: Specified, inits: &[Init<Counted>]) -> Judged {
+    Judged {
+        is_typed: said.kind.is_some(),
+        is_function: inits.len() > 0,
+    }
+}
+
+/// What is judged of a declarator and its initialiser.
+pub fn judged_declarator(formed: Formed, form: Form, is_typed: bool) -> Judged {
+    Judged {
+        is_typed: formed.is_judged && is_typed,
+        is_function: form == Form::Function,
+    }
+}

@@ -1,0 +1,51 @@
+-- Initialisers of scalars.
+use Rattle.std.specs.Prelude.{Bool, ◌&&◌, is_none, if◌then◌else◌, Option, Some, None}
+use Rattle.cc_tree.specs.Trees.{ExprTree, ValueTree, single, braces, ValueTrees, no_values, more_values}
+use Rattle.cc_tree_notes.specs.declared.note.Counted.{Counted}
+use Rattle.cc_tree_walks.specs.Notes.{expr_note}
+use Rattle.cc_types.specs.declared.shape.Shape.{Shape}
+use Rattle.cc_types.specs.declared.expr_type.ExprType.{ExprType}
+use Rattle.cc_types.specs.declared.expr_type.ExprType.TheVariants.{Plain}
+use Rattle.cc_symbols.specs.declared.declared.Life.{Life}
+use Rattle.cc_symbols.specs.declared.declared.Life.TheVariants.{Static}
+use Rattle.cc_symbols.specs.declared.findings.Findings.{Findings}
+use Rattle.cc_symbols.specs.declared.symbols.Symbols.{Symbols}
+use Rattle.cc_judging.specs.Asking.{is_integer}
+use Rattle.cc_typing.specs.Noting.{offended}
+use Rattle.cc_typing.specs.Checks.{fit_checked}
+use Rattle.cc_constants.specs.Constants.{constant}
+use Rattle.cc_check_values.specs.Typed.{type_of, misshapen}
+use Rattle.cc_check_values.specs.Statics.{is_static_value}
+
+-- the expression of an initialiser without braces
+abbrev pub single_part : ValueTree Counted → Option (ExprTree Counted)
+single_part (single e) = Some e
+single_part v = None
+
+-- the expression of the only one of these
+abbrev pub lone_part : ValueTrees Counted → Option (ExprTree Counted)
+lone_part (more_values v no_values) = single_part v
+lone_part vs = None
+
+-- C26
+abbrev pub form_checked : Symbols → ExprTree Counted → Findings → Findings
+form_checked st e f = if is_static_value st f e then f else offended (expr_note e).spot 26 f
+
+-- C27
+abbrev pub constant_checked : Symbols → Shape → ExprTree Counted → Findings → Findings
+constant_checked st a e f =
+    if is_integer st.types (Plain a) && is_none (constant st f e) then offended (expr_note e).spot 27 f else f
+
+abbrev pub static_checked : Symbols → Life → Shape → ExprTree Counted → Findings → Findings
+static_checked st Static a e f = constant_checked st a e (form_checked st e f)
+static_checked st life a e f = f
+
+-- what a scalar begins with, which has this type
+abbrev pub typed_checked : Symbols → Life → Shape → ExprTree Counted → Option ExprType → Findings → Findings
+typed_checked st life a e (Some t) f = fit_checked st (Some (Plain a)) e (Some t) (static_checked st life a e f)
+typed_checked st life a e None f = f
+
+-- an initialiser in braces of which this is the only expression
+abbrev pub lone_checked : Symbols → Life → Shape → ValueTree Counted → Option (ExprTree Counted) → Findings → Findings
+lone_checked st life a v (Some e) f = typed_checked st life a e (type_of f e) f
+lone_checked st life a v None f = misshapen v f
