@@ -19,16 +19,15 @@ pub(crate) struct Units {
     pub(crate) units: List<CheckedUnit>,
 }
 
-// Checks a numbered tree, the number after whose last node is `next`.
+// Checks the numbered tree of the file of this number.
 fn check_tree(
     alloc: Global,
     file: u32,
     tree: &FileTree<Counted>,
-    next: u32,
     known: Known,
     arena: &mut Arena,
 ) -> Result<Checked, FileFault> {
-    match check_unit(alloc, tree, file, next, known, arena) {
+    match check_unit(alloc, tree, file, known, arena) {
         Ok(checked) => Ok(checked),
         Err(CheckFault::Offence(offence)) => Err(FileFault::At {
             spot: offence.spot,
@@ -52,7 +51,7 @@ fn check_file(
     ensures { OnOk result (next.new < 2 ^ 30) }
 {
     match tree_of(alloc, bytes, next) {
-        Ok(tree) => check_tree(alloc, file, &tree, *next, known, arena),
+        Ok(tree) => check_tree(alloc, file, &tree, known, arena),
         Err(fault) => Err(fault),
     }
 }
