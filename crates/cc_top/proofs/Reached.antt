@@ -10,7 +10,8 @@ use Rattle.cc_first.specs.Limit.{limit}
 use Rattle.cc_top.specs.Words.{list_words}
 use Rattle.cc_first.specs.Project.{Project, IsProject}
 use Rattle.cc_first.proofs.OneProject.{same_project}
-use Rattle.cc_top.specs.Answer.{Reply, refused, AfterRead, OfFiles, OfProject, IsAnswer, Holds}
+use Rattle.cc_top.specs.Answer.{Reply, refused, AfterRead, OfFiles, OfProject, IsAnswer}
+use Rattle.cc_top.specs.Holds.{Holds}
 use Rattle.cc_top.specs.Reads.{Reads, Fails, Lacks, Passes}
 
 at_read : (files : Files) (name line : List ℕ) (next : List ℕ → Reply → Type 0) (reply : Reply) → Fails files name line → AfterRead files name next reply → reply ≡ refused line 3

@@ -7,7 +7,8 @@ use Rattle.cc_io.specs.Shelf.{Files}
 use Rattle.cc_first_runs.specs.Laws.{ListedLeavesNoneOut}
 use Rattle.cc_first_runs.specs.Couplings.{Row}
 use Rattle.cc_first_runs.specs.Program.{Program, IsSite}
-use Rattle.cc_top.specs.Answer.{Reply, refused, done, AfterRead, AfterUnit, OfProgram, OfFiles, OfProject, IsAnswer, Holds}
+use Rattle.cc_top.specs.Answer.{Reply, refused, done, AfterRead, AfterUnit, OfProgram, OfFiles, OfProject, IsAnswer}
+use Rattle.cc_top.specs.Holds.{Holds}
 use Rattle.cc_top.specs.Refusal.{missing_line, long_line}
 use Rattle.cc_first.specs.Listing.{AreLines, IsListing, header, line}
 use Rattle.cc_first.specs.Project.{Project, IsProject}

@@ -6,7 +6,8 @@ use Rattle.cc_first.specs.Limit.{limit}
 use Rattle.cc_top.specs.Words.{list_words}
 use Rattle.cc_first.specs.Project.{Project, IsProject}
 use Rattle.cc_first.specs.Unit.{Part, IsUnit, program_of}
-use Rattle.cc_top.specs.Answer.{Reply, AfterRead, OfProgram, OfFiles, OfProject, IsAnswer, Holds}
+use Rattle.cc_top.specs.Answer.{Reply, AfterRead, OfProgram, OfFiles, OfProject, IsAnswer}
+use Rattle.cc_top.specs.Holds.{Holds}
 use Rattle.cc_top.specs.Reads.{Reads}
 use Rattle.cc_top.specs.Refusal.{FaultNames}
 use Rattle.cc_top.specs.Tells.{Tells, IsFileName, IsNamed}
