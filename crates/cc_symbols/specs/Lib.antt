@@ -1,1 +1,3 @@
 pub mod Offences
+pub mod Places
+pub mod Symbols

@@ -1,5 +1,6 @@
 // What is found of expressions.
-ghost use Rattle.std.specs.Prelude.{◌≡◌, [], None};
+ghost use Rattle.std.specs.Prelude.{◌≡◌, OnOk};
+ghost use Rattle.cc_symbols.specs.Symbols as spec;
 
 use crate::offence::Offence;
 use crate::slots::Slots;
@@ -18,7 +19,9 @@ pub struct Findings {
 
 impl Findings {
     /// Nothing, of no nodes. Takes no memory.
-    pub fn new(alloc: Global) -> Findings {
+    pub fn new(alloc: Global) -> Findings
+        ensures { result ≡ spec.nothing_found }
+    {
         Findings {
             types: Slots::new(alloc),
             members: Slots::new(alloc),
@@ -27,7 +30,9 @@ impl Findings {
     }
 
     /// Places for the nodes below this number.
-    pub fn grow(&mut self, nodes: u32) -> Result<(), Memory> {
+    pub fn grow(&mut self, nodes: u32) -> Result<(), Memory>
+        ensures { OnOk result (self.new ≡ spec.found_grown self.old nodes) }
+    {
         self.types.grow(nodes, None)?;
         self.members.grow(nodes, None)
     }

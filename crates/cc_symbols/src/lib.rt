@@ -9,6 +9,7 @@
 
 mod declared;
 mod findings;
+mod known;
 mod offence;
 pub mod rule;
 mod slots;
@@ -17,7 +18,8 @@ mod unit;
 
 pub use declared::{Declared, Form, Life, Linkage};
 pub use findings::Findings;
+pub use known::Known;
 pub use offence::{Offence, lesser};
 pub use slots::Slots;
-pub use symbols::Symbols;
+pub use symbols::{CHAR, Symbols};
 pub use unit::{CheckedUnit, Completed, Outer, Role};

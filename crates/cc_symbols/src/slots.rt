@@ -1,5 +1,6 @@
 // A table by number.
 ghost use Rattle.std.specs.Prelude.{◌≡◌, [], ◌++◌, ◌∷◌, slice_get, slice_set, length, reverse, OnOk, IfOk};
+ghost use Rattle.cc_symbols.specs.Places as spec;
 
 use cc_base::Memory;
 use std::alloc::Global;
@@ -87,10 +88,26 @@ impl<T: Copy> Slots<T> {
     }
 
     /// Places up to this number of them, with `x` in each new one.
-    pub fn grow(&mut self, count: u32, x: T) -> Result<(), Memory> {
+    pub fn grow(&mut self, count: u32, x: T) -> Result<(), Memory>
+        ensures { OnOk result (self.new ≡ spec.grown self.old count x) }
+    {
         for _ in self.items.len()..count as usize {
             self.items.push(x)?;
         }
         Ok(())
+    }
+
+    /// Puts `x` at this number. Where there is no such place, there are places up to it from then on, with `other` in those
+    /// between.
+    pub fn put_far(&mut self, number: u32, x: T, other: T) -> Result<(), Memory>
+        ensures { OnOk result (self.new ≡ spec.put_far self.old number x other) }
+    {
+        self.grow(number, other)?;
+        if (number as usize) < self.items.len() {
+            self.put(number, x);
+            Ok(())
+        } else {
+            self.push(x)
+        }
     }
 }

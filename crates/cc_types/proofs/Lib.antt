@@ -7,3 +7,9 @@ pub mod Interned
 pub mod MeasuredStructs
 pub mod ListedDepths
 pub mod DeepStructs
+pub mod NumberedTexts
+pub mod ReadLists
+pub mod AdjustedTypes
+pub mod InsertedOnce
+pub mod NumberedLists
+pub mod RenewedStructs

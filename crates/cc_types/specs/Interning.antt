@@ -85,3 +85,18 @@ taking_made ss t f = made_of_bare (λ id. s.Takes id f) ss t
 -- the type of this number, and const too where that is to be
 abbrev pub const_made : List Shape → Bool → TypeId → List Shape × TypeId
 const_made ss k t = interned ss (with_const (k || is_const (shape_of ss t)) (shape_of ss t))
+
+-- a pointer to the type of this number, const where that is to be
+abbrev pub pointer_made : List Shape → Bool → TypeId → List Shape × TypeId
+pointer_made ss k t = let p = const_made ss k t in interned p.0 (s.Pointer false p.1)
+
+abbrev pub adjusted_by : List Shape → TypeId → Shape → List Shape × TypeId
+adjusted_by ss t (s.Array k u n) = pointer_made ss k u
+adjusted_by ss t (s.Function u) = interned ss (s.Pointer false t)
+adjusted_by ss t (s.Takes u f) = interned ss (s.Pointer false t)
+adjusted_by ss t a = (ss, t)
+
+-- The type of a parameter that is declared with this type (C17 6.7.6.3): of an array a pointer to its elements, which are
+-- const where the array is; of a function a pointer to it; else the same.
+abbrev pub adjusted : List Shape → TypeId → List Shape × TypeId
+adjusted ss t = adjusted_by ss t (shape_of ss t)

@@ -9,3 +9,4 @@ pub mod Laws
 pub mod Measures
 pub mod Structs
 pub mod Depths
+pub mod MemberLists

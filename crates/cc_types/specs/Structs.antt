@@ -1,5 +1,5 @@
 -- The structs of a file, by number.
-use Rattle.std.specs.Prelude.{ℕ, ◌+◌, Bool, false, not, ◌&&◌, ◌||◌, nat_eq, if◌then◌else◌, List, [], ◌∷◌, ◌++◌, length, Option, Some, None, bytes_eq, slice_set}
+use Rattle.std.specs.Prelude.{ℕ, ◌+◌, Bool, false, not, ◌&&◌, ◌||◌, nat_eq, if◌then◌else◌, List, [], ◌∷◌, ◌++◌, length, map, Option, Some, None, bytes_eq, slice_set}
 use Rattle.cc_tree.specs.declared.ids.StructId.{StructId}
 use Rattle.cc_types.specs.declared.measure.Measure.{Measure}
 use Rattle.cc_types.specs.declared.structs.StructEntry.{StructEntry}
@@ -14,8 +14,8 @@ use Rattle.cc_types.specs.Questions.{fits_scalar}
 use Rattle.cc_types.specs.Asked as asked
 use Rattle.cc_types.specs.declared.depth.Depth.{Depth}
 use Rattle.cc_types.specs.declared.depth.DepthItem.{DepthItem}
-use Rattle.cc_types.specs.Depths.{members_depth}
-use Rattle.cc_types.specs.Measures.{declared_entry, entry_of, members_measured}
+use Rattle.cc_types.specs.Depths.{flat, members_depth}
+use Rattle.cc_types.specs.Measures.{nothing, declared_entry, entry_of, members_measured}
 
 abbrev pub struct_number : ℕ → StructId
 struct_number n = record { 0 = n }
@@ -23,6 +23,17 @@ struct_number n = record { 0 = n }
 -- the structs with one more, which has no members as yet, and its number
 abbrev pub added : List StructEntry → Bool → ℕ → List StructEntry × StructId
 added es is_tagged token = (es ++ declared_entry is_tagged token ∷ [], struct_number (length es))
+
+-- At the beginning of another file no struct has its members. One without a tag keeps its depth, since types may be made of
+-- it that have their numbers already.
+abbrev pub depth_renewed : Bool → Depth → Depth
+depth_renewed is_tagged d = if is_tagged then flat 1 else d
+
+abbrev pub entry_renewed : StructEntry → StructEntry
+entry_renewed e = record { is_tagged = e.is_tagged; token = e.token; members = []; measure = nothing; depth = depth_renewed e.is_tagged e.depth }
+
+abbrev pub renewed : List StructEntry → List StructEntry
+renewed es = map entry_renewed es
 
 abbrev pub is_complete : List StructEntry → StructId → Bool
 is_complete es id = (entry_of es id).measure.is_complete

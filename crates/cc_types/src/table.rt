@@ -155,12 +155,27 @@ impl TypeTable {
     }
 
     /// The type of functions with this parameter before those of another function type (C17 6.7.6.3); its const says
-    /// nothing. An array or a function is no parameter's type: the caller adjusts it first.
+    /// nothing. An array or a function is no parameter's type: the caller takes what `adjusted` gives.
     pub fn taking(&mut self, parameter: TypeId, function: TypeId) -> Result<TypeId, Memory>
         ensures { IfOk result (λ id. (self.new, id) ≡ spec.taking_made self.old parameter function) }
     {
         let bare = self.bare(parameter)?;
         self.intern(Shape::Takes(bare, function))
+    }
+
+    /// The type of a parameter that is declared with this type (C17 6.7.6.3, paragraphs 7 and 8): of an array a pointer to
+    /// its elements, which are const where the array is; of a function a pointer to it; else the same.
+    pub fn adjusted(&mut self, id: TypeId) -> Result<TypeId, Memory>
+        ensures { IfOk result (λ made. (self.new, made) ≡ spec.adjusted self.old id) }
+    {
+        match self.shape(id) {
+            Shape::Array(is_const, element, _) => {
+                let element = self.also_const(is_const, element)?;
+                self.intern(Shape::Pointer(false, element))
+            }
+            Shape::Function(_) | Shape::Takes(_, _) => self.intern(Shape::Pointer(false, id)),
+            _ => Ok(id),
+        }
     }
 
     /// The same type, and const too where that is to be (C17 6.7.3).
