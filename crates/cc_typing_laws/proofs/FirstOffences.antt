@@ -105,10 +105,10 @@ below q o (p ∷ ps) h = below q (chosen o p) ps (step_by q o p (is_before p o) 
 none_before : (o : Offence) (ps : List Offence) → All (NotBefore (least_from o ps)) (o ∷ ps)
 none_before o [] = All-cons (NotBefore o) o [] (itself o) (All-nil (NotBefore o))
 none_before o (p ∷ ps) =
-  let r = least_from (chosen o p) ps in
-  All-cons (NotBefore r) o (p ∷ ps) (below o (chosen o p) ps (step_by o o p (is_before p o) refl (itself o)))
+    let r = least_from (chosen o p) ps in
+    All-cons (NotBefore r) o (p ∷ ps) (below o (chosen o p) ps (step_by o o p (is_before p o) refl (itself o)))
     (All-cons (NotBefore r) p ps (below p (chosen o p) ps (later_by o p (is_before p o) refl))
-      (All-tail (NotBefore r) (chosen o p) ps (none_before (chosen o p) ps)))
+    (All-tail (NotBefore r) (chosen o p) ps (none_before (chosen o p) ps)))
 
 -- ---- It is one of them
 

@@ -69,9 +69,9 @@ mutual
   all_least_kept : (s : Symbols) (state : Passing) (es : ExprTrees Counted) (f : Findings) → (all_noted s state es f).least ≡ least_of f.least (all_offences s state es)
   all_least_kept s state no_exprs f = refl
   all_least_kept s state (more_exprs e es) f =
-    let target = parameter s.types state in
-    let next = pass_one s.types state (type_of s e) in
-    all_least_kept s next es (fit_checked s target e (type_of s e) (noted s e f))
+      let target = parameter s.types state in
+      let next = pass_one s.types state (type_of s e) in
+      all_least_kept s next es (fit_checked s target e (type_of s e) (noted s e f))
       ∙ ap (λ z. least_of z (all_offences s next es)) (misfit_kept s target e (type_of s e) (noted s e f) ∙ ap (λ z. least_of z (misfits s target e (type_of s e))) (least_kept s e f) ∙ sym (least_append f.least (offences s e) (misfits s target e (type_of s e))))
       ∙ sym (least_append f.least (offences s e ++ misfits s target e (type_of s e)) (all_offences s next es))
 
@@ -122,8 +122,8 @@ mutual
   all_types_kept : (s : Symbols) (state : Passing) (es : ExprTrees Counted) (f : Findings) → (all_noted s state es f).types ≡ types_put f.types (all_typings s es)
   all_types_kept s state no_exprs f = refl
   all_types_kept s state (more_exprs e es) f =
-    let target = parameter s.types state in
-    let next = pass_one s.types state (type_of s e) in
-    all_types_kept s next es (fit_checked s target e (type_of s e) (noted s e f))
+      let target = parameter s.types state in
+      let next = pass_one s.types state (type_of s e) in
+      all_types_kept s next es (fit_checked s target e (type_of s e) (noted s e f))
       ∙ ap (λ z. types_put z (all_typings s es)) (misfit_types s target e (type_of s e) (noted s e f) ∙ types_kept s e f)
       ∙ sym (put_append f.types (typings s e) (all_typings s es))

@@ -219,10 +219,10 @@ module _ (ss : List Shape) (table : IsTable ss) (es : List StructEntry) where
       → meant ts (assignments.assign_judged ss es op place s t n) ≡ operators.assign es op place (option_map (expr_type ts) s) (option_map (expr_type ts) t) n
   assign_is op place (Some s) (Some t) n h hs ht =
       if_is ts (place && assignments.is_assignable s) _ _ _ _
-        (stored_is op (value_in ss s) (value_in ss t) n (value_sound ss table s hs) (value_sound ss table t ht)
-          ∙ ap (λ x. operators.stored es op x (T (value_in ss t)) n) (value_is ss table s)
-          ∙ ap (λ x. operators.stored es op (value_type (T s)) x n) (value_is ss table t))
-        refl
+      (stored_is op (value_in ss s) (value_in ss t) n (value_sound ss table s hs) (value_sound ss table t ht)
+      ∙ ap (λ x. operators.stored es op x (T (value_in ss t)) n) (value_is ss table s)
+      ∙ ap (λ x. operators.stored es op (value_type (T s)) x n) (value_is ss table t))
+      refl
       ∙ ap (λ x. if x then operators.stored es op (value_type (T s)) (value_type (T t)) n else breaks 39 Whole) (assignable_is place s h)
   assign_is op place (Some s) None n h hs ht = refl
   assign_is op place None (Some t) n h hs ht = refl
@@ -249,13 +249,13 @@ module _ (ss : List Shape) (table : IsTable ss) (es : List StructEntry) where
   others_is : (s : ExprType) (m : Bool) (t : ExprType) (n : Bool) → HasSound ts s → HasSound ts t → meant ts (choices.others_judged ss s m t n) ≡ operators.others (T s) m (T t) n
   others_is s m t n hs ht =
       if_is ts (asking.is_void ss s && asking.is_void ss t) _ _ _ _ refl
-        (if_is ts (asked.point_at_one ss s t || asking.is_pointer ss s && n) _ _ _ _ refl (or_is ts (m && asking.is_pointer ss t) t 48 Whole)
-          ∙ ap (λ x. if x || types.is_pointer (T s) && n then typed (T s) else or_breaks (m && types.is_pointer (T t)) (T t) 48 Whole) (one_pointee ss table s t hs ht))
+      (if_is ts (asked.point_at_one ss s t || asking.is_pointer ss s && n) _ _ _ _ refl (or_is ts (m && asking.is_pointer ss t) t 48 Whole)
+      ∙ ap (λ x. if x || types.is_pointer (T s) && n then typed (T s) else or_breaks (m && types.is_pointer (T t)) (T t) 48 Whole) (one_pointee ss table s t hs ht))
 
   others_sound : (s : ExprType) (m : Bool) (t : ExprType) (n : Bool) → HasSound ts s → HasSound ts t → JudgedSound ts (choices.others_judged ss s m t n)
   others_sound s m t n hs ht =
       if_sound ts (asking.is_void ss s && asking.is_void ss t) _ _ refl
-        (if_sound ts (asked.point_at_one ss s t || asking.is_pointer ss s && n) _ _ hs (or_sound ts (m && asking.is_pointer ss t) t 48 Whole ht))
+      (if_sound ts (asked.point_at_one ss s t || asking.is_pointer ss s && n) _ _ hs (or_sound ts (m && asking.is_pointer ss t) t 48 Whole ht))
 
   branches_is : (m n : Option IntKind) (x : Judged) (y : Judgement) → meant ts x ≡ y → meant ts (choices.of_kinds m n x) ≡ operators.of_branches m n y
   branches_is (Some j) (Some k) x y e = refl
@@ -273,10 +273,10 @@ module _ (ss : List Shape) (table : IsTable ss) (es : List StructEntry) where
       → meant ts (choices.choice_judged ss c s m t n) ≡ operators.choice (option_map (expr_type ts) c) (option_map (expr_type ts) s) m (option_map (expr_type ts) t) n
   choice_is (Some c) (Some s) m (Some t) n hs ht =
       if_is ts (asking.is_scalar ss (value_in ss c)) _ _ _ _
-        (branches_is (asking.kind_in ss (value_in ss s)) (asking.kind_in ss (value_in ss t)) _ _ (others_is (value_in ss s) m (value_in ss t) n (value_sound ss table s hs) (value_sound ss table t ht))
-          ∙ ap (λ x. operators.branches x m (T (value_in ss t)) n) (value_is ss table s)
-          ∙ ap (λ x. operators.branches (value_type (T s)) m x n) (value_is ss table t))
-        refl
+      (branches_is (asking.kind_in ss (value_in ss s)) (asking.kind_in ss (value_in ss t)) _ _ (others_is (value_in ss s) m (value_in ss t) n (value_sound ss table s hs) (value_sound ss table t ht))
+      ∙ ap (λ x. operators.branches x m (T (value_in ss t)) n) (value_is ss table s)
+      ∙ ap (λ x. operators.branches (value_type (T s)) m x n) (value_is ss table t))
+      refl
       ∙ ap (λ x. if types.is_scalar x then operators.branches (value_type (T s)) m (value_type (T t)) n else breaks 32 First) (value_is ss table c)
   choice_is (Some c) (Some s) m None n hs ht = refl
   choice_is (Some c) None m (Some t) n hs ht = refl
@@ -289,8 +289,8 @@ module _ (ss : List Shape) (table : IsTable ss) (es : List StructEntry) where
   pub choice_sound : (c s : Option ExprType) (m : Bool) (t : Option ExprType) (n : Bool) → IfSome s (HasSound ts) → IfSome t (HasSound ts) → JudgedSound ts (choices.choice_judged ss c s m t n)
   choice_sound (Some c) (Some s) m (Some t) n hs ht =
       if_sound ts (asking.is_scalar ss (value_in ss c)) _ _
-        (branches_sound (asking.kind_in ss (value_in ss s)) (asking.kind_in ss (value_in ss t)) _ (others_sound (value_in ss s) m (value_in ss t) n (value_sound ss table s hs) (value_sound ss table t ht)))
-        tt
+      (branches_sound (asking.kind_in ss (value_in ss s)) (asking.kind_in ss (value_in ss t)) _ (others_sound (value_in ss s) m (value_in ss t) n (value_sound ss table s hs) (value_sound ss table t ht)))
+      tt
   choice_sound (Some c) (Some s) m None n hs ht = tt
   choice_sound (Some c) None m (Some t) n hs ht = tt
   choice_sound (Some c) None m None n hs ht = tt
