@@ -10,3 +10,6 @@ pub mod DeepStructs
 pub mod NumberedTexts
 pub mod ReadLists
 pub mod AdjustedTypes
+pub mod InsertedOnce
+pub mod NumberedLists
+pub mod RenewedStructs
