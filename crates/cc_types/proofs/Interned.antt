@@ -94,7 +94,7 @@ module _ (ss : List Shape) (table : IsTable ss) where
   makes a h = subst (λ x. Makes ss (interned_at ss x) (built (types_of ss) a)) (sym (stays_made a h)) (at_makes a h)
 
   -- a type made after others
-  makes_on : (p q : List Shape × TypeId) (t u : CTypeTree) → Makes ss p t → Makes p.0 q u → Makes ss q u
+  pub makes_on : (p q : List Shape × TypeId) (t u : CTypeTree) → Makes ss p t → Makes p.0 q u → Makes ss q u
   makes_on p q t u a b = record { table = b.table; extends = extends_on _ _ _ a.extends b.extends; within = b.within; is = b.is }
 
 never_const : (t : CTypeTree) → not (types.has_const (types.with_const false t)) ≡ true

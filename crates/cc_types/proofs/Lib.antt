@@ -9,3 +9,7 @@ pub mod ListedDepths
 pub mod DeepStructs
 pub mod NumberedTexts
 pub mod ReadLists
+pub mod AdjustedTypes
+pub mod InsertedOnce
+pub mod NumberedLists
+pub mod RenewedStructs

@@ -38,7 +38,7 @@ module _ (ts us : List CTypeTree) (es new : List StructEntry) (more : Extends ts
   measure_stays (taking t f) e = refl
   measure_stays (struct_by k id) e = ap (λ x. x.measure) (agree id e)
 
-  type_stays : (id : TypeId) → (measure_of es (type_at ts id)).is_complete ≡ true → type_at us id ≡ type_at ts id
+  pub type_stays : (id : TypeId) → (measure_of es (type_at ts id)).is_complete ≡ true → type_at us id ≡ type_at ts id
   type_stays id e = by (nat_lt id.0 (length ts)) refl
     where
       by : (b : Bool) → nat_lt id.0 (length ts) ≡ b → type_at us id ≡ type_at ts id

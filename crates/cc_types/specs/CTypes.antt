@@ -1,5 +1,5 @@
 -- The types of C as plain trees (C17 6.2.5). A first field of each says whether the type is const.
-use Rattle.std.specs.Prelude.{ℕ, Bool, true, false, Option}
+use Rattle.std.specs.Prelude.{ℕ, Bool, true, false, ◌||◌, Option}
 use Rattle.cc_arith.specs.declared.kind.IntKind.{IntKind}
 use Rattle.cc_tree.specs.declared.ids.StructId.{StructId}
 
@@ -53,3 +53,11 @@ function_to t = returning (with_const false t)
 
 abbrev pub function_taking : CTypeTree → CTypeTree → CTypeTree
 function_taking t f = taking (with_const false t) f
+
+-- The type of a parameter that is declared with this type (6.7.6.3, paragraphs 7 and 8): of an array a pointer to its
+-- elements, which are const where the array is; of a function a pointer to it; else the same.
+abbrev pub adjusted_from : CTypeTree → CTypeTree
+adjusted_from (array_of k t n) = pointer_to false (with_const (k || has_const t) t)
+adjusted_from (returning t) = pointer_to false (returning t)
+adjusted_from (taking t f) = pointer_to false (taking t f)
+adjusted_from t = t

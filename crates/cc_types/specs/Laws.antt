@@ -1,6 +1,6 @@
 -- Laws of the table of types, as statements.
 use Rattle.std.specs.Prelude.{◌≡◌, ◌<◌, ◌≤◌, ◌+◌, ◌-◌, ◌^◌, ◌↔◌, ◌⊎◌, true, false, ℕ, take, Bool, List, [], length, Option}
-use Rattle.cc_types.specs.CTypes.{CTypeTree, is_function, array_from, function_to, function_taking}
+use Rattle.cc_types.specs.CTypes.{CTypeTree, is_function, array_from, function_to, function_taking, adjusted_from}
 use Rattle.cc_types.specs.SameTypes.{same_type}
 use Rattle.cc_types.specs.Questions.{also_const}
 use Rattle.cc_types.specs.declared.shape.Shape.{Shape}
@@ -10,11 +10,13 @@ use Rattle.cc_tree.specs.declared.ids.StructId.{StructId}
 use Rattle.cc_types.specs.declared.structs.StructEntry.{StructEntry}
 use Rattle.cc_types.specs.declared.structs.Member.{Member}
 use Rattle.cc_types.specs.declared.depth.DepthItem.{DepthItem}
+use Rattle.cc_types.specs.declared.member_lists.MemberLists.{MemberLists}
+use Rattle.cc_types.specs.MemberLists.{no_lists, numbered, IsNumbered, AreOnce}
 use Rattle.cc_types.specs.Measures.{entry_of, members_measured, capped}
-use Rattle.cc_types.specs.Depths.{depth_of, depth_in, item_at, caught_up, mentions, struct_deep}
+use Rattle.cc_types.specs.Depths.{depth_of, depth_in, item_at, caught_up, mentions, struct_depth, struct_deep, members_depth}
 use Rattle.cc_types.specs.Asked.{is_array}
-use Rattle.cc_types.specs.Structs.{is_complete, added, completed}
-use Rattle.cc_types.specs.Interning.{interned, array_made, function_made, taking_made, const_made}
+use Rattle.cc_types.specs.Structs.{is_complete, added, renewed, completed}
+use Rattle.cc_types.specs.Interning.{interned, array_made, function_made, taking_made, const_made, adjusted}
 
 -- the test of types says that they are the same
 abbrev pub SameTypesAreTold : Type 0
@@ -55,6 +57,9 @@ ParametersAreTaken = (ss : List Shape) → IsTable ss → (t f : TypeId) → f.0
 abbrev pub ConstIsAdded : Type 0
 ConstIsAdded = (ss : List Shape) → IsTable ss → (k : Bool) (t : TypeId) → Makes ss (const_made ss k t) (also_const k (type_at (types_of ss) t))
 
+abbrev pub ParametersAreAdjusted : Type 0
+ParametersAreAdjusted = (ss : List Shape) → IsTable ss → (t : TypeId) → t.0 < length ss → Makes ss (adjusted ss t) (adjusted_from (type_at (types_of ss) t))
+
 -- What each struct keeps is what its members measure: it is complete where each of them is, and then nothing changes it.
 pub record AreMeasured (ts : List CTypeTree) (es : List StructEntry) : Type 0 where
   pub kept : (id : StructId) → is_complete es id ≡ true → (entry_of es id).measure ≡ members_measured ts es (entry_of es id).members
@@ -76,6 +81,18 @@ MoreTypesKeepMeasures = (ts us : List CTypeTree) → Extends ts us → (es : Lis
 abbrev pub CompleteStructsStay : Type 0
 CompleteStructsStay = (ss : List Shape) (es : List StructEntry) (ds : List DepthItem) (id : StructId) (ms : List Member) (other : StructId)
     → is_complete es other ≡ true → entry_of (completed ss es ds id ms) other ≡ entry_of es other
+
+abbrev pub AddingLeavesComplete : Type 0
+AddingLeavesComplete = (es : List StructEntry) (is_tagged : Bool) (token : ℕ) (other : StructId)
+    → is_complete es other ≡ true → entry_of (added es is_tagged token).0 other ≡ entry_of es other
+
+-- a struct that isn't complete has no members
+pub record AreBare (es : List StructEntry) : Type 0 where
+  pub bare : (id : StructId) → is_complete es id ≡ false → (entry_of es id).members ≡ []
+
+abbrev pub BareThroughout : Type 0
+BareThroughout = AreBare [] × ((es : List StructEntry) (is_tagged : Bool) (token : ℕ) → AreBare es → AreBare (added es is_tagged token).0)
+    × ((ss : List Shape) (es : List StructEntry) (ds : List DepthItem) (id : StructId) (ms : List Member) → AreBare es → AreBare (completed ss es ds id ms))
 
 -- no depth that a struct keeps is too great to be counted
 pub record AreCounted (es : List StructEntry) : Type 0 where
@@ -105,9 +122,11 @@ CatchingUpLists = (ss : List Shape) (es : List StructEntry) (ds : List DepthItem
 abbrev pub NothingIsListed : Type 0
 NothingIsListed = (es : List StructEntry) → AreListed [] es []
 
--- a struct has a tag, or stands in no type of the table: so completing it changes no depth inside pointers and functions
-abbrev pub IsFree : List CTypeTree → List StructEntry → StructId → Type 0
-IsFree ts es id = ((entry_of es id).is_tagged ≡ true) ⊎ ((t : TypeId) → mentions id (type_at ts t) ≡ false)
+-- Completing a struct changes no depth inside pointers and functions: it has a tag, or is as deep inside as it was in an
+-- earlier file, or stands in no type of the table.
+abbrev pub IsFree : List Shape → List StructEntry → List DepthItem → StructId → List Member → Type 0
+IsFree ss es ds id ms = (((entry_of es id).is_tagged ≡ true) ⊎ ((members_depth ss es ds ms).inside ≡ (entry_of es id).depth.inside))
+    ⊎ ((t : TypeId) → mentions id (type_at (types_of ss) t) ≡ false)
 
 abbrev pub CountedThroughout : Type 0
 CountedThroughout = AreCounted [] × ((es : List StructEntry) (is_tagged : Bool) (token : ℕ) → AreCounted es → AreCounted (added es is_tagged token).0)
@@ -118,7 +137,7 @@ abbrev pub AddingKeepsLists : Type 0
 AddingKeepsLists = (ss : List Shape) (es : List StructEntry) (ds : List DepthItem) (is_tagged : Bool) (token : ℕ) → AreListed ss es ds → AreListed ss (added es is_tagged token).0 ds
 
 abbrev pub CompletingKeepsLists : Type 0
-CompletingKeepsLists = (ss : List Shape) (es : List StructEntry) (ds : List DepthItem) (id : StructId) (ms : List Member) → IsFree (types_of ss) es id
+CompletingKeepsLists = (ss : List Shape) (es : List StructEntry) (ds : List DepthItem) (id : StructId) (ms : List Member) → IsFree ss es ds id ms
     → AreListed ss es ds → AreListed ss (completed ss es ds id ms) ds
 
 -- the depth that each complete struct keeps is 1 more than that of its deepest member
@@ -126,8 +145,39 @@ pub record AreDeep (ts : List CTypeTree) (es : List StructEntry) : Type 0 where
   pub kept : (id : StructId) → is_complete es id ≡ true → (entry_of es id).depth ≡ struct_deep ts es (entry_of es id).members
 
 abbrev pub CompletingKeepsDepths : Type 0
-CompletingKeepsDepths = (ss : List Shape) (es : List StructEntry) (ds : List DepthItem) (id : StructId) (ms : List Member) → IsFree (types_of ss) es id
+CompletingKeepsDepths = (ss : List Shape) (es : List StructEntry) (ds : List DepthItem) (id : StructId) (ms : List Member) → IsFree ss es ds id ms
     → IsTable ss → AreCounted es → AreListed ss es ds → AreMeasured (types_of ss) es → AreDeep (types_of ss) es → AreDeep (types_of ss) (completed ss es ds id ms)
 
 abbrev pub AddingKeepsDepths : Type 0
 AddingKeepsDepths = (ss : List Shape) (es : List StructEntry) (is_tagged : Bool) (token : ℕ) → AreMeasured (types_of ss) es → AreDeep (types_of ss) es → AreDeep (types_of ss) (added es is_tagged token).0
+
+abbrev pub MoreTypesKeepDepths : Type 0
+MoreTypesKeepDepths = (ts us : List CTypeTree) → Extends ts us → (es : List StructEntry) → AreMeasured ts es → AreDeep ts es → AreDeep us es
+
+-- At the beginning of another file all these hold again, and a struct is as deep inside pointers and function types as before.
+pub record Begins (es new : List StructEntry) : Type 0 where
+  pub measured : (ts : List CTypeTree) → AreMeasured ts new
+  pub deep : (ts : List CTypeTree) → AreDeep ts new
+  pub bare : AreBare new
+  pub counted : AreCounted es → AreCounted new
+  pub inside : (id : StructId) → (struct_depth (entry_of new id)).inside ≡ (struct_depth (entry_of es id)).inside
+
+abbrev pub RenewingBegins : Type 0
+RenewingBegins = (es : List StructEntry) → Begins es (renewed es)
+
+-- what numbering a list of members leads to: it has that number, and lists that had a number keep it
+pub record Numbers (lists : MemberLists) (p : MemberLists × ℕ) (ms : List Member) : Type 0 where
+  pub once : AreOnce p.0
+  pub is : IsNumbered p.0 ms p.1
+  pub stays : (ns : List Member) (n : ℕ) → IsNumbered lists ns n → IsNumbered p.0 ns n
+
+abbrev pub NoListsAreOnce : Type 0
+NoListsAreOnce = AreOnce no_lists
+
+abbrev pub NumberingNumbers : Type 0
+NumberingNumbers = (lists : MemberLists) → AreOnce lists → (ms : List Member) → Numbers lists (numbered lists ms) ms
+
+-- lists have one number exactly where they are equal
+abbrev pub EqualListsHaveEqualNumbers : Type 0
+EqualListsHaveEqualNumbers = (lists : MemberLists) → AreOnce lists → (ms ns : List Member) (m n : ℕ)
+    → IsNumbered lists ms m → IsNumbered lists ns n → (m ≡ n) ↔ (ms ≡ ns)

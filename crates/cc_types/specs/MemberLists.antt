@@ -1,5 +1,5 @@
 -- Numbers for texts and for lists of members.
-use Rattle.std.specs.Prelude.{ℕ, ◌+◌, Bool, List, [], ◌∷◌, bytes_eq}
+use Rattle.std.specs.Prelude.{◌≡◌, ℕ, ◌+◌, Bool, List, [], ◌∷◌, reverse, Some, slice_get, bytes_eq}
 use Rattle.std.specs.List.{position_or_len}
 use Rattle.indexmap.specs.IndexSet.{insert_key}
 use Rattle.cc_types.specs.declared.links.Link.{Link}
@@ -43,3 +43,32 @@ extended p (m ∷ ms) = extended (longer p.0 p.1 m) ms
 -- the lists with this one, and its number
 abbrev pub numbered : MemberLists → List Member → MemberLists × ℕ
 numbered lists ms = extended (lists, 0) ms
+
+-- ---- Which list a number stands for
+
+-- a list that is not empty, with number n: its last member is that of a link, which says the number of the list before
+pub record IsLinked (lists : MemberLists) (Before : ℕ → Type 0) (m : Member) (n : ℕ) : Type 0 where
+  pub link : ℕ
+  pub before : ℕ
+  pub name : ℕ
+  pub number : n ≡ link + 1
+  pub is : slice_get lists.links link ≡ Some (link_to before name m.kind)
+  pub named : slice_get lists.names name ≡ Some m.name
+  pub rest : Before before
+
+-- the same of the list whose members, the last first, are these
+abbrev pub IsNumberedBack : MemberLists → List Member → ℕ → Type 0
+IsNumberedBack lists [] n = n ≡ 0
+IsNumberedBack lists (m ∷ ms) n = IsLinked lists (IsNumberedBack lists ms) m n
+
+-- this list has number n
+abbrev pub IsNumbered : MemberLists → List Member → ℕ → Type 0
+IsNumbered lists ms n = IsNumberedBack lists (reverse ms) n
+
+-- nothing stands twice in it
+abbrev pub IsOnce : {X : Type 0} → List X → Type 0
+IsOnce {X} xs = (i j : ℕ) (x : X) → slice_get xs i ≡ Some x → slice_get xs j ≡ Some x → i ≡ j
+
+pub record AreOnce (lists : MemberLists) : Type 0 where
+  pub names : IsOnce lists.names
+  pub links : IsOnce lists.links

@@ -14,8 +14,8 @@ use Rattle.cc_types.specs.Questions.{fits_scalar}
 use Rattle.cc_types.specs.Asked as asked
 use Rattle.cc_types.specs.declared.depth.Depth.{Depth}
 use Rattle.cc_types.specs.declared.depth.DepthItem.{DepthItem}
-use Rattle.cc_types.specs.Depths.{members_depth}
-use Rattle.cc_types.specs.Measures.{declared_entry, entry_of, members_measured}
+use Rattle.cc_types.specs.Depths.{flat, members_depth}
+use Rattle.cc_types.specs.Measures.{nothing, declared_entry, entry_of, members_measured}
 
 abbrev pub struct_number : ℕ → StructId
 struct_number n = record { 0 = n }
@@ -24,9 +24,16 @@ struct_number n = record { 0 = n }
 abbrev pub added : List StructEntry → Bool → ℕ → List StructEntry × StructId
 added es is_tagged token = (es ++ declared_entry is_tagged token ∷ [], struct_number (length es))
 
--- the structs without their members, for the next file
+-- At the beginning of another file no struct has its members. One without a tag keeps its depth, since types may be made of
+-- it that have their numbers already.
+abbrev pub depth_renewed : Bool → Depth → Depth
+depth_renewed is_tagged d = if is_tagged then flat 1 else d
+
+abbrev pub entry_renewed : StructEntry → StructEntry
+entry_renewed e = record { is_tagged = e.is_tagged; token = e.token; members = []; measure = nothing; depth = depth_renewed e.is_tagged e.depth }
+
 abbrev pub renewed : List StructEntry → List StructEntry
-renewed es = map (λ e. declared_entry e.is_tagged e.token) es
+renewed es = map entry_renewed es
 
 abbrev pub is_complete : List StructEntry → StructId → Bool
 is_complete es id = (entry_of es id).measure.is_complete

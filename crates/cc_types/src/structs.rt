@@ -1,5 +1,5 @@
 // The structs of a project, with their members.
-ghost use Rattle.std.specs.Prelude.{◌≡◌, [], slice_set, IfOk};
+ghost use Rattle.std.specs.Prelude.{◌≡◌, [], ◌∷◌, ◌++◌, slice_set, IfOk, OnOk};
 ghost use Rattle.cc_types.specs.CTypes.{has_const};
 ghost use Rattle.cc_types.specs.Shapes.{built, type_at, types_of};
 ghost use Rattle.cc_types.specs.Measures as measures;
@@ -82,13 +82,23 @@ impl Structs {
         Ok(StructId(number as u32))
     }
 
-    /// The same structs, none of which has its members as yet: with them the next file of the project begins.
+    // One entry more.
+    fn push(&mut self, entry: StructEntry) -> Result<(), Memory>
+        ensures { OnOk result (self.new ≡ self.old ++ entry ∷ []) }
+    {
+        self.entries.push(entry)?;
+        Ok(())
+    }
+
+    /// The same structs, none of which has its members as yet: with them the next file of the project begins. One without a
+    /// tag keeps its depth, since the table may have types that are made of it: with the same members it is as deep inside
+    /// pointers in each file, because members with a tag count 1 there.
     pub fn renewed(&self, alloc: Global) -> Result<Structs, Memory>
         ensures { IfOk result (λ structs. structs ≡ spec.renewed self.now) }
     {
         let mut structs = Structs::new(alloc);
         for entry in self.entries.as_slice() {
-            structs.add(alloc, entry.is_tagged, entry.token)?;
+            structs.push(entry_renewed(alloc, entry))?;
         }
         Ok(structs)
     }
@@ -226,6 +236,25 @@ impl Structs {
             self.put(id, members, measure, depth);
         }
     }
+}
+
+// What is known of a struct at the beginning of another file.
+fn entry_renewed(alloc: Global, entry: &StructEntry) -> StructEntry
+    ensures { result ≡ spec.entry_renewed entry.now }
+{
+    StructEntry {
+        is_tagged: entry.is_tagged,
+        token: entry.token,
+        members: List::new(alloc),
+        measure: Measure::nothing(),
+        depth: depth_renewed(entry.is_tagged, entry.depth),
+    }
+}
+
+fn depth_renewed(is_tagged: bool, depth: Depth) -> Depth
+    ensures { result ≡ spec.depth_renewed is_tagged depth }
+{
+    if is_tagged { Depth::flat(1) } else { depth }
 }
 
 // The first member of this name, with its place.

@@ -1,3 +1,4 @@
+use Rattle.cc_types.proofs.AdjustedTypes.{adjusted_makes}
 use Rattle.cc_types.proofs.Interned.{makes, array_makes, function_makes, taking_makes, const_added}
 use Rattle.cc_types.proofs.laws.making_laws.Goals as goal
 
@@ -15,3 +16,6 @@ returns-clause-parameters c = taking_makes
 
 pub returns-clause-added : goal.returns-clause-added
 returns-clause-added c = const_added
+
+pub returns-clause-adjusted : goal.returns-clause-adjusted
+returns-clause-adjusted c = adjusted_makes

@@ -1,4 +1,5 @@
 use Rattle.cc_types.proofs.DeepStructs.{none_counted, more_counted, completed_counted, more_listed, completed_listed, more_deep, completed_deep}
+use Rattle.cc_types.proofs.RenewedStructs.{more_types_deep, begins}
 use Rattle.cc_types.proofs.laws.struct_depth_laws.Goals as goal
 
 pub returns-clause-counted : goal.returns-clause-counted
@@ -15,3 +16,9 @@ returns-clause-adding c = λ ss es is_tagged token measured deep. more_deep es i
 
 pub returns-clause-completing : goal.returns-clause-completing
 returns-clause-completing c = λ ss es ds id ms free table counted all measured deep. completed_deep ss es ds id ms table counted all free measured deep
+
+pub returns-clause-more_types : goal.returns-clause-more_types
+returns-clause-more_types c = more_types_deep
+
+pub returns-clause-renewing : goal.returns-clause-renewing
+returns-clause-renewing c = begins
