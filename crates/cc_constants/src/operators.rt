@@ -1,5 +1,7 @@
 // What operators give values, if they have them.
 ghost use Rattle.std.specs.Prelude.{◌≡◌};
+ghost use Rattle.cc_arith.specs.Promotions.{IsPromoted};
+ghost use Rattle.cc_arith.specs.Operators.{IsRightOperand};
 ghost use Rattle.cc_constants.specs.Operators as spec;
 
 use cc_arith::{IntKind, IntOp, IntUnary, binary, common, convert, promote, unary};
@@ -58,13 +60,14 @@ fn int_combined(op: IntOp, j: IntKind, v: i128, k: IntKind, w: i128) -> Option<i
     ensures { result ≡ spec.int_combined op j v k w }
 {
     let kind = kind_of_operation(op, j, k);
-    let right = convert(kind_of_right(op, j, k), w);
+    let right = right_operand(op, j, k, w);
     binary(op, kind, convert(kind, v), right).ok()
 }
 
 // The kind in which an operator works on two integers.
 fn kind_of_operation(op: IntOp, j: IntKind, k: IntKind) -> IntKind
-    ensures { result ≡ spec.kind_of_operation op j k }
+    ensures value { result ≡ spec.kind_of_operation op j k }
+    ensures promoted { IsPromoted result }
 {
     match op {
         IntOp::Shl | IntOp::Shr => promote(j),
@@ -72,7 +75,16 @@ fn kind_of_operation(op: IntOp, j: IntKind, k: IntKind) -> IntKind
     }
 }
 
-// The kind of its right operand, promoted or converted: the count of a shift has a kind of its own.
+// The value of its right operand, promoted or converted: the count of a shift has a kind of its own.
+#[tactic(auto, using(crate::proofs::RightOperands::may_stand_right))]
+fn right_operand(op: IntOp, j: IntKind, k: IntKind, w: i128) -> i128
+    ensures value { result ≡ spec.right_operand op j k w }
+    ensures right { IsRightOperand op (spec.kind_of_operation op j k) result }
+{
+    convert(kind_of_right(op, j, k), w)
+}
+
+// The kind in which an operator takes its right operand.
 fn kind_of_right(op: IntOp, j: IntKind, k: IntKind) -> IntKind
     ensures { result ≡ spec.kind_of_right op j k }
 {
