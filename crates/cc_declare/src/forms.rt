@@ -1,5 +1,5 @@
 // The types that the forms of a declarator make, and the rules on them.
-ghost use Rattle.std.specs.Prelude.{◌≡◌, IfOk};
+ghost use Rattle.std.specs.Prelude.{◌≡◌, IfOk, OnOk};
 ghost use Rattle.cc_declare.specs.Forms as spec;
 
 use crate::checker::Checker;
@@ -69,6 +69,16 @@ impl<'a> Checker<'a> {
         }
     }
 
+    // The same, where these are to be the elements of an array (C19, C20).
+    fn of_elements(&self, note: Counted, a: Shape, shaped: Shaped) -> Shaped
+        ensures { result ≡ spec.of_elements self.now note a shaped }
+    {
+        let is_wrong = lacks_length(a) || self.has_too_many_cells(a);
+        shaped
+            .faulted_if(self.is_no_object(a), note, rule::OBJECT_TYPE)
+            .faulted_if(is_wrong, note, rule::ARRAY_SIZE)
+    }
+
     // An array of these elements, of this length (C19, C20).
     fn array_of(
         &mut self,
@@ -81,12 +91,40 @@ impl<'a> Checker<'a> {
         ensures { IfOk result (λ r. (self.new, r) ≡ spec.array_of_made self.old note length may_lack shaped element) }
     {
         let shape = self.symbols.types.shape(element);
-        let shaped = shaped.faulted_if(self.is_no_object(shape), note, rule::OBJECT_TYPE);
-        let shaped = shaped.faulted_if(lacks_length(shape), note, rule::ARRAY_SIZE);
+        let shaped = self.of_elements(note, shape, shaped);
         let made = self.symbols.types.array(element, length_of(length))?;
         let is_large = self.has_too_many_cells(self.symbols.types.shape(made));
         let is_broken = is_wrong_length(length, may_lack) || is_large;
         Ok(shaped.faulted_if(is_broken, note, rule::ARRAY_SIZE).with_kind(Some(made)))
+    }
+
+    // The same of this, if it has a type.
+    fn array_with(
+        &mut self,
+        note: Counted,
+        length: ConstantValue,
+        may_lack: bool,
+        shaped: Shaped,
+    ) -> Result<Shaped, Memory>
+        ensures { IfOk result (λ r. (self.new, r) ≡ spec.array_with self.old note length may_lack shaped) }
+    {
+        match shaped.kind {
+            Some(t) => self.array_of(note, length, may_lack, shaped, t),
+            None => Ok(shaped),
+        }
+    }
+
+    // An array of this whose length is no constant: it has no type.
+    fn array_without(&self, note: Counted, shaped: Shaped) -> Shaped
+        ensures { result ≡ spec.array_without self.now note shaped }
+    {
+        match shaped.kind {
+            Some(t) => {
+                let shape = self.symbols.types.shape(t);
+                self.of_elements(note, shape, shaped).with_kind(None)
+            }
+            None => shaped,
+        }
     }
 
     /// An array of this. Where its length has no type, nothing is judged; where it is no constant, there is no type.
@@ -99,15 +137,13 @@ impl<'a> Checker<'a> {
     ) -> Result<Shaped, Memory>
         ensures { IfOk result (λ r. (self.new, r) ≡ spec.array_made self.old note length may_lack shaped) }
     {
-        match (length, shaped.kind) {
-            (ConstantValue::Untyped, _) => Ok(shaped.unjudged()),
-            (_, None) => Ok(shaped),
-            (ConstantValue::NoConstant, Some(t)) => {
-                let shape = self.symbols.types.shape(t);
-                let is_broken = self.is_no_object(shape);
-                Ok(shaped.faulted_if(is_broken, note, rule::OBJECT_TYPE).with_kind(None))
+        match length {
+            ConstantValue::Untyped => Ok(shaped.unjudged()),
+            ConstantValue::NoConstant => Ok(self.array_without(note, shaped)),
+            ConstantValue::Missing => {
+                self.array_with(note, ConstantValue::Missing, may_lack, shaped)
             }
-            (_, Some(t)) => self.array_of(note, length, may_lack, shaped, t),
+            ConstantValue::Is(n) => self.array_with(note, ConstantValue::Is(n), may_lack, shaped),
         }
     }
 
@@ -211,7 +247,10 @@ impl<'a> Checker<'a> {
             return Ok(shaped.unjudged());
         }
         match shaped.kind {
-            None => Ok(shaped),
+            None => {
+                let is_broken = self.has_struct(kinds.as_slice());
+                Ok(shaped.faulted_if(is_broken, note, rule::FUNCTION_TYPE))
+            }
             Some(value) => {
                 let mut kinds = kinds;
                 kinds.reverse();
@@ -229,16 +268,26 @@ impl<'a> Checker<'a> {
         Ok(self.symbols.depths.depth(&self.symbols.structs, shape).whole)
     }
 
-    // What is too deep (C20) has no type.
-    fn limited(&mut self, note: Option<Counted>, shaped: Shaped) -> Result<Shaped, Memory>
-        ensures { IfOk result (λ r. (self.new, r) ≡ spec.limited self.old note shaped) }
+    // What is too deep at this node (C20) has no type.
+    fn limited_at(&mut self, note: Counted, shaped: Shaped) -> Result<Shaped, Memory>
+        ensures { IfOk result (λ r. (self.new, r) ≡ spec.limited_at self.old note shaped) }
     {
-        match (note, shaped.kind) {
-            (Some(note), Some(t)) => {
+        match shaped.kind {
+            Some(t) => {
                 let depth = self.depth(t)?;
                 Ok(limited_by(note, depth > DEEPEST, shaped))
             }
-            _ => Ok(shaped),
+            None => Ok(shaped),
+        }
+    }
+
+    // The same, if there is a node.
+    fn limited(&mut self, note: Option<Counted>, shaped: Shaped) -> Result<Shaped, Memory>
+        ensures { IfOk result (λ r. (self.new, r) ≡ spec.limited self.old note shaped) }
+    {
+        match note {
+            Some(note) => self.limited_at(note, shaped),
+            None => Ok(shaped),
         }
     }
 
@@ -255,17 +304,18 @@ impl<'a> Checker<'a> {
         })
     }
 
-    /// The type of a type name, whose node this is; `outermost` is the note of its outermost form. What it breaks is
-    /// excused before a null constant, where the cast is judged.
+    /// The type of a type name, whose node this is; `outermost` is the note of its outermost form. `(void *)` is excused
+    /// from C22 where it stands before a zero.
     pub fn type_name(
         &mut self,
         note: Counted,
         outermost: Option<Counted>,
-        is_excused: bool,
+        is_before_zero: bool,
         shaped: Shaped,
     ) -> Result<(), Memory>
-        ensures { IfOk result (λ r. self.new ≡ spec.type_name_made self.old note outermost is_excused shaped) }
+        ensures { OnOk result (self.new ≡ spec.type_name_made self.old note outermost is_before_zero shaped) }
     {
+        let is_excused = is_before_zero && self.is_void_pointer(shaped.kind);
         let formed = self.formed(outermost, shaped.excused_if(is_excused))?;
         self.symbols.kinds.put(note.number, formed.kind);
         Ok(())

@@ -6,7 +6,6 @@ ghost use Rattle.cc_declare.specs.Members as spec;
 use crate::checker::Checker;
 use crate::names::Named;
 use crate::shaped::Formed;
-use crate::specifiers::Specified;
 use cc_base::{List, Memory, Text};
 use cc_symbols::{Completed, rule};
 use cc_tree::StructId;
@@ -105,14 +104,6 @@ impl<'a> Checker<'a> {
             Some(named) => self.member_of(alloc, fields, named, formed),
             None => Ok(()),
         }
-    }
-
-    /// The specifiers of members: a storage class (C24), and `inline` where all of their declarators are judged (C16).
-    pub fn member_specifiers(&mut self, note: Counted, specified: Specified, are_judged: bool)
-        ensures { self.new ≡ spec.member_specifiers self.old note specified are_judged }
-    {
-        self.no_storage(specified.storage);
-        self.no_inline(note, specified.inline, are_judged);
     }
 
     // The struct that has these members: of those without a tag the first with the same ones.

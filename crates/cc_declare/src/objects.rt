@@ -5,7 +5,7 @@ ghost use Rattle.cc_declare.specs.Objects as spec;
 use crate::checker::Checker;
 use crate::shaped::Formed;
 use crate::shapes::lacks_length;
-use crate::specifiers::Storage;
+use crate::specifiers::{Specified, Storage};
 use cc_symbols::rule;
 use cc_tree_notes::Counted;
 use cc_types::TypeId;
@@ -23,17 +23,23 @@ impl<'a> Checker<'a> {
         self.offend_if(lacks || is_large, note, rule::ARRAY_SIZE);
     }
 
+    // The same, if there is a type.
+    fn object_if(&mut self, note: Counted, kind: Option<TypeId>, may_lack_length: bool)
+        ensures { self.new ≡ spec.object_if self.old note kind may_lack_length }
+    {
+        match kind {
+            Some(kind) => self.object_of(note, kind, may_lack_length),
+            None => {}
+        }
+    }
+
     /// A declarator gives an object or a member this type: C19 for void, a function and an incomplete struct; C20 for more
     /// cells than an object may have, and for an array without a length where it may not lack it. Only where it is judged.
     pub fn object(&mut self, note: Counted, formed: Formed, may_lack_length: bool)
         ensures { self.new ≡ spec.object_judged self.old note formed may_lack_length }
     {
-        match formed {
-            Formed {
-                kind: Some(kind),
-                is_judged: true,
-            } => self.object_of(note, kind, may_lack_length),
-            _ => {}
+        if formed.is_judged {
+            self.object_if(note, formed.kind, may_lack_length);
         }
     }
 
@@ -53,5 +59,14 @@ impl<'a> Checker<'a> {
     {
         let is_broken = is_judged && inline.is_some();
         self.offend_if(is_broken, note, rule::INLINE);
+    }
+
+    /// The specifiers of members or of a parameter at this node: no storage class, and no `inline` where the declarators
+    /// are judged.
+    pub fn plain_specifiers(&mut self, note: Counted, specified: Specified, is_judged: bool)
+        ensures { self.new ≡ spec.plain_specifiers self.old note specified is_judged }
+    {
+        self.no_storage(specified.storage);
+        self.no_inline(note, specified.inline, is_judged);
     }
 }

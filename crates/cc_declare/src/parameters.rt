@@ -77,8 +77,7 @@ impl<'a> Checker<'a> {
         ensures { IfOk result (λ t. (self.new, t)
             ≡ spec.parameter_made (name_part named.entry) note specified formed self.old) }
     {
-        self.no_storage(specified.storage);
-        self.no_inline(note, specified.inline, formed.is_judged);
+        self.plain_specifiers(note, specified, formed.is_judged);
         let kind = self.adjusted(formed.kind)?;
         self.symbols.kinds.put(note.number, kind);
         let adjusted = Formed {

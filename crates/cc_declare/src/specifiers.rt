@@ -71,16 +71,48 @@ fn core_of(kind: Option<TypeId>) -> Core
     }
 }
 
+// The type of a declaration of this form, if that is a typedef name.
+fn alias_as(form: Form, kind: Option<TypeId>) -> Option<TypeId>
+    ensures { result ≡ spec.alias_as form kind }
+{
+    match form {
+        Form::Typedef => kind,
+        Form::Object(_) | Form::Function | Form::Constant(_) => None,
+    }
+}
+
 // The type that a typedef name stands for.
 fn alias_of(declared: Option<Declared>) -> Option<TypeId>
     ensures { result ≡ spec.alias_of declared }
 {
     match declared {
-        Some(Declared {
-            form: Form::Typedef,
-            kind,
-            ..
-        }) => kind,
+        Some(declared) => alias_as(declared.form, declared.kind),
+        None => None,
+    }
+}
+
+fn is_typedef(word: SpecWord) -> bool
+    ensures { result ≡ spec.is_typedef word }
+{
+    matches!(word, SpecWord::Typedef)
+}
+
+// Whether a storage class is `typedef`.
+fn makes_name(storage: Option<Storage>) -> bool
+    ensures { result ≡ spec.makes_name storage }
+{
+    match storage {
+        Some(storage) => is_typedef(storage.word),
+        None => false,
+    }
+}
+
+// The type that a struct, an enum or a typedef name is, if there is one.
+fn type_in(core: Core) -> Option<TypeId>
+    ensures { result ≡ spec.type_in core }
+{
+    match core {
+        Core::Type(t) => Some(t),
         _ => None,
     }
 }
@@ -173,7 +205,9 @@ impl Said {
         ensures { result ≡ spec.word_said self note word }
     {
         match word {
-            SpecWord::Typedef | SpecWord::Extern | SpecWord::Static => self.stored(note, word),
+            SpecWord::Typedef => self.stored(note, SpecWord::Typedef),
+            SpecWord::Extern => self.stored(note, SpecWord::Extern),
+            SpecWord::Static => self.stored(note, SpecWord::Static),
             SpecWord::Inline => self.inlined(note),
             SpecWord::Const => self.made_const(),
             _ => self.with_words(self.words.word(word)),
@@ -212,13 +246,7 @@ impl Said {
     fn make_types(self) -> bool
         ensures { result ≡ spec.make_types self }
     {
-        match self.storage {
-            Some(Storage {
-                word: SpecWord::Typedef,
-                ..
-            }) => true,
-            _ => self.has_body,
-        }
+        makes_name(self.storage) || self.has_body
     }
 }
 
@@ -260,10 +288,9 @@ impl<'a> Checker<'a> {
     fn bare_type(&mut self, words: TypeWords) -> Result<Option<TypeId>, Memory>
         ensures { IfOk result (λ t. (self.new, t) ≡ spec.bare_made self.old words) }
     {
-        match (words.core, shape_named(words.core, words.sign)) {
-            (_, Some(shape)) => self.made(shape),
-            (Core::Type(t), None) => Ok(Some(t)),
-            (_, None) => Ok(None),
+        match shape_named(words.core, words.sign) {
+            Some(shape) => self.made(shape),
+            None => Ok(type_in(words.core)),
         }
     }
 

@@ -122,6 +122,16 @@ impl<'a> Checker<'a> {
         }
     }
 
+    // A tag stands again in an enum. A tag of a struct may not (C18).
+    fn enum_again(&mut self, note: Counted, number: u32, tag: Tag, has_body: bool)
+        ensures { self.new ≡ spec.enum_again self.old note number tag has_body tag.form }
+    {
+        match tag.form {
+            TagForm::Enum => self.tag_again(note, number, tag, has_body),
+            TagForm::Struct(_) => self.offend(note, rule::NEW_NAME),
+        }
+    }
+
     // The tag of an enum.
     fn named_enum(&mut self, note: Counted, name: &'a str, has_body: bool) -> Result<(), Memory>
         ensures { OnOk result (self.new ≡ spec.named_enum self.old note name.now has_body) }
@@ -135,10 +145,7 @@ impl<'a> Checker<'a> {
                 self.add_tag(name, tag)
             }
             Some((number, tag)) => {
-                match tag.form {
-                    TagForm::Enum => self.tag_again(note, number, tag, has_body),
-                    TagForm::Struct(_) => self.offend(note, rule::NEW_NAME),
-                }
+                self.enum_again(note, number, tag, has_body);
                 Ok(())
             }
         }

@@ -1,6 +1,8 @@
 // Specifiers, declarators, members, enumeration constants, type names and expressions: each may lead to each of the others.
-ghost use Rattle.std.specs.Prelude.{◌≡◌, IfOk, OnOk};
+ghost use Rattle.std.specs.Prelude.{◌≡◌, true, pos, IfOk, OnOk};
 ghost use Rattle.cc_tree.specs.Views.{view, exprs_of, option_of, view_declarator, declarators_of, view_type, types_of, view_spec, specs_of, view_member, members_of, view_constant, constants_of};
+ghost use Rattle.cc_declare.specs.Members.{no_fields};
+ghost use Rattle.cc_declare.specs.Specifying.{nothing_said};
 ghost use Rattle.cc_declare_cycle.specs.Declaring as spec;
 
 use crate::values::{judged, valued};
@@ -142,19 +144,19 @@ fn parameter<'a>(
     checker.parameter(alloc, p.note, said, name_of(&p.declarator), formed)
 }
 
-// The type of a type name. What its own forms break is excused before a null constant.
+// The type of a type name. One that stands before a zero may be `void *`.
 #[cycle(declare)]
 fn type_name<'a>(
     alloc: Global,
     checker: &mut Checker<'a>,
-    is_excused: bool,
+    is_before_zero: bool,
     t: &'a TypeName<Counted>,
 ) -> Result<(), Memory>
-    ensures { OnOk result (checker.new ≡ spec.type_named is_excused (view_type t.now) checker.old) }
+    ensures { OnOk result (checker.new ≡ spec.type_named is_before_zero (view_type t.now) checker.old) }
 {
     let said = specifiers(alloc, checker, Setting::TypeName, t.note, t.specs.as_slice())?;
     let made = shaped(alloc, checker, Shaped::based(said.kind), false, &t.declarator)?;
-    checker.type_name(t.note, note_of(&t.declarator), is_excused, made)
+    checker.type_name(t.note, note_of(&t.declarator), is_before_zero, made)
 }
 
 // The note of the first specifier; of none, this one.
@@ -190,7 +192,7 @@ fn all_said<'a>(
     checker: &mut Checker<'a>,
     specs: &'a [Spec<Counted>],
 ) -> Result<Said, Memory>
-    ensures { IfOk result (λ r. (checker.new, r) ≡ spec.said_all (specs_of specs.now) spec.nothing checker.old) }
+    ensures { IfOk result (λ r. (checker.new, r) ≡ spec.said_all (specs_of specs.now) nothing_said checker.old) }
 {
     let mut said = Said::nothing();
     for s in specs {
@@ -213,19 +215,37 @@ fn said_one<'a>(
         Spec::Word(n, w) => Ok(said.word(*n, *w)),
         Spec::Named(_, x) => Ok(checker.alias(said, x.as_str())),
         Spec::Struct(n, tag, ms) => {
-            let has_body = !ms.as_slice().is_empty();
+            let has_body = has_members(ms.as_slice());
             let id = checker.struct_of(alloc, *n, tag, has_body)?;
             let id = structure(alloc, checker, *n, id, ms.as_slice())?;
             let kind = checker.struct_type(id)?;
             Ok(said.typed(kind).bodied_if(has_body))
         }
         Spec::Enum(n, tag, cs, _) => {
-            let has_body = !cs.as_slice().is_empty();
+            let has_body = has_constants(cs.as_slice());
             checker.enum_of(*n, tag, has_body)?;
             constants(alloc, checker, cs.as_slice())?;
             let kind = checker.enum_type()?;
             Ok(said.typed(kind).bodied_if(has_body))
         }
+    }
+}
+
+fn has_members(ms: &[Member<Counted>]) -> bool
+    ensures { result ≡ spec.has_members (members_of ms.now) }
+{
+    match ms {
+        [] => false,
+        [_, ..] => true,
+    }
+}
+
+fn has_constants(cs: &[Constant<Counted>]) -> bool
+    ensures { result ≡ spec.has_constants (constants_of cs.now) }
+{
+    match cs {
+        [] => false,
+        [_, ..] => true,
     }
 }
 
@@ -240,11 +260,12 @@ fn structure<'a>(
 ) -> Result<Option<StructId>, Memory>
     ensures { IfOk result (λ r. (checker.new, r) ≡ spec.structure note id (members_of ms.now) checker.old) }
 {
-    if ms.is_empty() {
-        return Ok(id);
+    if has_members(ms) {
+        let fields = all_fields(alloc, checker, ms)?;
+        checker.struct_with(alloc, note, id, fields)
+    } else {
+        Ok(id)
     }
-    let fields = all_fields(alloc, checker, ms)?;
-    checker.struct_with(alloc, note, id, fields)
 }
 
 // The members between braces.
@@ -268,7 +289,7 @@ fn members<'a>(
     checker: &mut Checker<'a>,
     ms: &'a [Member<Counted>],
 ) -> Result<Fields, Memory>
-    ensures { IfOk result (λ r. (checker.new, r) ≡ spec.members (members_of ms.now) spec.none checker.old) }
+    ensures { IfOk result (λ r. (checker.new, r) ≡ spec.members (members_of ms.now) no_fields checker.old) }
 {
     let mut fields = Fields::new(alloc);
     for m in ms {
@@ -289,7 +310,7 @@ fn member<'a>(
 {
     let said = specifiers(alloc, checker, Setting::Member, m.note, m.specs.as_slice())?;
     let are_judged = fields_of(alloc, checker, fields, said.kind, m.declarators.as_slice())?;
-    checker.member_specifiers(m.note, said, are_judged);
+    checker.plain_specifiers(m.note, said, are_judged);
     Ok(())
 }
 
@@ -337,7 +358,7 @@ fn constants<'a>(
     checker: &mut Checker<'a>,
     cs: &'a [Constant<Counted>],
 ) -> Result<(), Memory>
-    ensures { OnOk result (checker.new ≡ spec.constants (constants_of cs.now) spec.zero checker.old) }
+    ensures { OnOk result (checker.new ≡ spec.constants (constants_of cs.now) (pos 0) checker.old) }
 {
     let mut next = 0;
     for c in cs {
