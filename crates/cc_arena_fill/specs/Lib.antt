@@ -1,3 +1,4 @@
 pub mod Numbers
 pub mod Filling
 pub mod Definitions
+pub mod Holding

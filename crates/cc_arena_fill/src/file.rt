@@ -2,6 +2,7 @@
 ghost use Rattle.std.specs.Prelude.{◌≡◌, OnOk, map};
 ghost use Rattle.cc_tree.specs.Views.{view_external, view_file};
 ghost use Rattle.cc_arena_fill.specs.Filling as spec;
+ghost use Rattle.cc_arena_fill.specs.Holding.{HoldsIfNumbered};
 ghost use Rattle.cc_arena_fill.specs.Definitions.{definition_of};
 
 use crate::declaration::fill_declaration;
@@ -17,9 +18,11 @@ use cc_tree_notes::Counted;
 /// is a part of. Where the file is numbered from the arena's count on, each node stands at its number. Fails where memory or
 /// numbers are wanting; the arena then has some of the nodes.
 pub fn fill_file(arena: &mut Arena, file: &FileTree<Counted>) -> Result<(), Memory>
-    ensures { OnOk result (arena.new ≡ spec.put_file (view_file file.now) arena.old) }
+    ensures filled { OnOk result (arena.new ≡ spec.put_file (view_file file.now) arena.old) }
+    ensures held { OnOk result (HoldsIfNumbered arena.old arena.new (view_file file.now)) }
 {
-    fill_externals(arena, file.externals.as_slice())
+    fill_externals(arena, file.externals.as_slice())?;
+    Ok(())
 }
 
 fn fill_externals(arena: &mut Arena, xs: &[External<Counted>]) -> Result<(), Memory>
