@@ -1,6 +1,6 @@
 // Declarators in blocks.
 
-use crate::storage::{Judged, Region, form, judged_declarator, word_of};
+use crate::storage::{Judged, Region, check_object, form, judged_declarator, word_of};
 use crate::values::{check_given, completed_type, given, lacks_length};
 use cc_base::Memory;
 use cc_declare::{Checker, Formed, Named, Specified, name_of};
@@ -28,22 +28,10 @@ fn inner_declared<'a>(
     }
 }
 
-// C24 of a function in a block; C19 and C20 of an object, which may lack a length only where its declarator leaves it to a
-// type that has none and an initialiser is there.
-fn check_inner<'a>(
-    checker: &mut Checker<'a>,
-    named: Named<'a>,
-    form: Form,
-    formed: Formed,
-    may_lack_length: bool,
-) {
-    match form {
-        Form::Function => {
-            checker.offend_if(formed.is_judged, named.note, rule::STORAGE_CLASS)
-        }
-        Form::Object(_) => checker.object(named.note, formed, may_lack_length),
-        Form::Typedef | Form::Constant(_) => {}
-    }
+// C24 of a function in a block.
+fn check_function<'a>(checker: &mut Checker<'a>, note: Counted, form: Form, formed: Formed) {
+    let is_broken = formed.is_judged && matches!(form, Form::Function);
+    checker.offend_if(is_broken, note, rule::STORAGE_CLASS);
 }
 
 // Completes the type of what is declared.
@@ -64,6 +52,8 @@ fn inner_named<'a>(
 ) -> Result<Judged, Memory> {
     let what = inner_declared(checker, named, form, formed.kind);
     let number = checker.declare(alloc, named, formed.is_judged, what)?;
+    check_function(checker, named.note, form, formed);
+    check_object(checker, named.note, form, formed, true);
     let is_typed = given(alloc, checker, &i.value)?;
     let kind = completed_type(checker, form, formed.kind, &i.value)?;
     let whole = Formed {
@@ -72,7 +62,7 @@ fn inner_named<'a>(
     };
     complete(checker, named, number, kind);
     let may_lack_length = i.value.is_some() && !lacks_length(&i.declarator);
-    check_inner(checker, named, form, whole, may_lack_length);
+    check_object(checker, named.note, form, whole, may_lack_length);
     check_given(checker, form, kind, &i.value);
     Ok(judged_declarator(formed, form, is_typed))
 }

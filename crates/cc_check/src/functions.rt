@@ -38,13 +38,6 @@ fn check_head<'a>(
     checker.offend_if(formed.is_judged && is_broken, note, rule::FUNCTION_BODY);
 }
 
-// C19 and C20 of a body's name that has no function type.
-fn check_other<'a>(checker: &mut Checker<'a>, note: Counted, form: Form, formed: Formed) {
-    if let Form::Object(_) = form {
-        checker.object(note, formed, true);
-    }
-}
-
 // Declares what has a body, and keeps it for linking.
 fn declare_head<'a>(
     alloc: Global,
@@ -54,7 +47,6 @@ fn declare_head<'a>(
     formed: Formed,
 ) -> Result<(), Memory> {
     let form = form(Region::File, word_of(said), checker.shape_of(formed.kind));
-    check_other(checker, named.note, form, formed);
     let what = outer_declared(checker, named, word_of(said), form, formed.kind, true);
     let number = declare_linked(alloc, checker, named, formed.is_judged, what)?;
     keep_outer(checker, named, number, what, Role::Defines)

@@ -1,7 +1,7 @@
 // Declarators outside of functions.
 
 use crate::linkage::{composed, linkage, may_repeat, role};
-use crate::storage::{Judged, Region, form, judged_declarator, word_of};
+use crate::storage::{Judged, Region, check_object, form, judged_declarator, word_of};
 use crate::values::{check_given, completed_type, given};
 use cc_base::Memory;
 use cc_declare::{Checker, Formed, Named, Specified, name_of};
@@ -90,7 +90,14 @@ pub fn outer_declared<'a>(
 ) -> Declared {
     let earlier = checker.declared(checker.here(named.name));
     let linkage = linkage(storage, form, linkage_of(earlier));
-    linked(checker, named, form, linkage, kind, role(storage, form, is_given))
+    linked(
+        checker,
+        named,
+        form,
+        linkage,
+        kind,
+        role(storage, form, is_given),
+    )
 }
 
 fn linkage_of(declared: Option<Declared>) -> Option<Linkage> {
@@ -156,13 +163,6 @@ fn settle_type<'a>(
     }
 }
 
-// C19 and C20 of an object outside of functions.
-fn check_object<'a>(checker: &mut Checker<'a>, named: Named<'a>, form: Form, formed: Formed) {
-    if let Form::Object(_) = form {
-        checker.object(named.note, formed, true);
-    }
-}
-
 // An object or a function, with its initialiser.
 fn outer_linked<'a>(
     alloc: Global,
@@ -176,6 +176,7 @@ fn outer_linked<'a>(
     let is_given = i.value.is_some();
     let what = outer_declared(checker, named, storage, form, formed.kind, is_given);
     let number = declare_linked(alloc, checker, named, formed.is_judged, what)?;
+    check_object(checker, named.note, form, formed, true);
     let is_typed = given(alloc, checker, &i.value)?;
     let kind = completed_type(checker, form, formed.kind, &i.value)?;
     let whole = Formed {
@@ -183,7 +184,7 @@ fn outer_linked<'a>(
         is_judged: formed.is_judged,
     };
     settle(checker, named, whole, number, formed.kind);
-    check_object(checker, named, form, whole);
+    check_object(checker, named.note, form, whole, true);
     check_given(checker, form, kind, &i.value);
     let what = Declared {
         form,

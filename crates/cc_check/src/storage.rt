@@ -20,8 +20,8 @@ pub enum Region {
 pub struct Judged {
     /// Whether all specifiers, lengths, parameters and initialisers have types.
     pub is_typed: bool,
-    /// Whether each declares a function.
-    pub is_function: bool,
+    /// Whether each declares a function, or has no type that could say so.
+    pub may_be_functions: bool,
 }
 
 impl Judged {
@@ -29,7 +29,7 @@ impl Judged {
     pub fn and(self, other: Judged) -> Judged {
         Judged {
             is_typed: self.is_typed && other.is_typed,
-            is_function: self.is_function && other.is_function,
+            may_be_functions: self.may_be_functions && other.may_be_functions,
         }
     }
 }
@@ -100,13 +100,8 @@ pub fn check_storage<'a>(
 }
 
 /// C16 at a declaration, where it has types: `inline` stands with `static`, and on functions alone.
-pub fn check_inline<'a>(
-    checker: &mut Checker<'a>,
-    note: Counted,
-    said: Specified,
-    judged: Judged,
-) {
-    let is_allowed = word_of(said) == Some(SpecWord::Static) && judged.is_function;
+pub fn check_inline<'a>(checker: &mut Checker<'a>, note: Counted, said: Specified, judged: Judged) {
+    let is_allowed = word_of(said) == Some(SpecWord::Static) && judged.may_be_functions;
     let is_broken = said.inline.is_some() && judged.is_typed && !is_allowed;
     checker.offend_if(is_broken, note, rule::INLINE);
 }
@@ -115,14 +110,32 @@ pub fn check_inline<'a>(
 pub fn judged_specifiers(said: Specified, inits: &[Init<Counted>]) -> Judged {
     Judged {
         is_typed: said.kind.is_some(),
-        is_function: inits.len() > 0,
+        may_be_functions: inits.len() > 0,
     }
+}
+
+// Whether a declarator declares a function, or has no type that could say so.
+fn may_be_function(formed: Formed, form: Form) -> bool {
+    formed.kind.is_none() || matches!(form, Form::Function)
 }
 
 /// What is judged of a declarator and its initialiser.
 pub fn judged_declarator(formed: Formed, form: Form, is_typed: bool) -> Judged {
     Judged {
         is_typed: formed.is_judged && is_typed,
-        is_function: form == Form::Function,
+        may_be_functions: may_be_function(formed, form),
+    }
+}
+
+/// C19 and C20 of what a declarator declares, if it is an object.
+pub fn check_object<'a>(
+    checker: &mut Checker<'a>,
+    note: Counted,
+    form: Form,
+    formed: Formed,
+    may_lack_length: bool,
+) {
+    if let Form::Object(_) = form {
+        checker.object(note, formed, may_lack_length);
     }
 }

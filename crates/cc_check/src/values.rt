@@ -122,7 +122,11 @@ pub fn check_given<'a>(
 pub fn lacks_length(d: &Declarator<Counted>) -> bool {
     match d {
         Declarator::Array(_, inner, length) => {
-            if is_name(inner.get()) { length.is_none() } else { lacks_length(inner.get()) }
+            if is_name(inner.get()) {
+                length.is_none()
+            } else {
+                lacks_length(inner.get())
+            }
         }
         Declarator::Pointer(_, _, inner)
         | Declarator::Func(_, inner, _)
