@@ -10,7 +10,7 @@ use cc_base::{List, Text};
 use cc_types::{Shape, TypeId, TypeTable};
 
 /// A name of the project file that breaks a rule.
-#[derive(Clone, Copy, Debug, PartialEq, Eq)]
+#[derive(Clone, Copy)]
 pub struct NameFault {
     pub list: Names,
     pub index: u32,
