@@ -1,6 +1,6 @@
 -- The entries of the map as names.
-use Rattle.std.proofs.Common.{◌≡◌, refl, ap, ◌∙◌, ℕ, Bool, true, false, List, [], ◌∷◌, map, if◌then◌else◌}
-use Rattle.std.specs.Prelude.{Option, None, Some, cond}
+use Rattle.std.proofs.Common.{◌≡◌, refl, ap, ℕ, Bool, true, false, List, [], ◌∷◌, map, if◌then◌else◌}
+use Rattle.std.specs.Prelude.{Option, Some, cond}
 use Rattle.std.specs.Borrow.{Bor}
 use Rattle.std.specs.Str.{bytes_eq}
 use Rattle.std.specs.Map.{lookup}
@@ -22,7 +22,7 @@ pub lookup_known : (es : Entries) (x : List ℕ) → lookup (λ k. bytes_eq x k.
 lookup_known [] x = refl
 lookup_known (e ∷ es) x = either_found (bytes_eq x e.0.now) e.1 (lookup (λ k. bytes_eq x k.now) es) (known_of (names_in es) x) (lookup_known es x)
 
-either_put : (b : Bool) (e : Bor (List ℕ) × Linked) (es more : Entries) (l : Linked) (ds : Names) → names_in more ≡ ds
+either_put : (b : Bool) (e : Bor (List ℕ) × Linked) (es more : Entries) (l : Linked) (ds : LinkedNames) → names_in more ≡ ds
     → names_in (if b then (e.0, l) ∷ es else e ∷ more) ≡ (if b then (e.0.now, l) ∷ names_in es else (e.0.now, e.1) ∷ ds)
 either_put true e es more l ds h = refl
 either_put false e es more l ds h = ap (λ z. (e.0.now, e.1) ∷ z) h

@@ -1,5 +1,5 @@
 -- Which of two link faults comes first: by file, then by place, then by rule.
-use Rattle.std.specs.Prelude.{ℕ, ◌+◌, ◌-◌, ◌^◌, Bool, ◌&&◌, ◌||◌, nat_eq, nat_lt, Option, Some, None, if◌then◌else◌}
+use Rattle.std.specs.Prelude.{ℕ, ◌+◌, ◌-◌, ◌^◌, Bool, nat_eq, nat_lt, Option, Some, None, if◌then◌else◌}
 use Rattle.cc_base.specs.declared.place.FileId.{FileId}
 use Rattle.cc_base.specs.declared.place.Place.{Place}
 use Rattle.cc_base.specs.declared.place.Spot.{Spot}

@@ -1,5 +1,5 @@
 -- Names that mean the same in all files.
-use Rattle.std.specs.Prelude.{ℕ, Bool, Option, None, Some, List, [], ◌∷◌, if◌then◌else◌, slice_get}
+use Rattle.std.specs.Prelude.{ℕ, Option, None, Some, List, [], ◌∷◌, if◌then◌else◌, slice_get}
 use Rattle.std.specs.Str.{bytes_eq}
 use Rattle.cc_link_rules.specs.declared.linked.Linked.{Linked}
 

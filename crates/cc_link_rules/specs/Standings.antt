@@ -1,11 +1,10 @@
 -- What a declaration is in the whole program: which function or object, whether that is defined within its linkage, and its
 -- type (C17 6.2.2, 6.2.7).
-use Rattle.std.specs.Prelude.{ℕ, Bool, true, false, List, [], ◌∷◌, ◌++◌, Option, Some, None, slice_get}
+use Rattle.std.specs.Prelude.{ℕ, false, List, [], ◌∷◌, ◌++◌, Option, Some, None, slice_get}
 use Rattle.cc_types.specs.declared.shape.TypeId.{TypeId}
 use Rattle.cc_symbols.specs.declared.declared.Declared.{Declared}
 use Rattle.cc_symbols.specs.declared.declared.Form.{Form}
 use Rattle.cc_symbols.specs.declared.declared.Form.TheVariants.{Object, Function, Typedef, Constant}
-use Rattle.cc_symbols.specs.declared.declared.Life.{Life}
 use Rattle.cc_symbols.specs.declared.declared.Life.TheVariants.{Static, Local, Formal, Parameter}
 use Rattle.cc_symbols.specs.declared.declared.Linkage.{Linkage}
 use Rattle.cc_symbols.specs.declared.declared.Linkage.TheVariants.{External, Internal, Without}

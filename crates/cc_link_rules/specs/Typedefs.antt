@@ -1,5 +1,5 @@
 -- Typedef names over all files, and K5.
-use Rattle.std.specs.Prelude.{ℕ, nat_eq, true, false, not, List, [], ◌∷◌, Option, Some, None}
+use Rattle.std.specs.Prelude.{ℕ, nat_eq, false, not, List, [], ◌∷◌, Option, Some, None}
 use Rattle.cc_base.specs.declared.place.FileId.{FileId}
 use Rattle.cc_symbols.specs.declared.declared.Form.{Form}
 use Rattle.cc_symbols.specs.declared.declared.Form.TheVariants.{Object, Function, Typedef, Constant}

@@ -1,5 +1,5 @@
 -- Names in expressions, and K3 and K10.
-use Rattle.std.specs.Prelude.{ℕ, nat_eq, Bool, true, false, not, ◌&&◌, nat_lt, List, [], ◌∷◌, ◌++◌, Option, Some, None, is_some, slice_get, if◌then◌else◌}
+use Rattle.std.specs.Prelude.{ℕ, nat_eq, Bool, false, not, ◌&&◌, nat_lt, List, [], ◌∷◌, ◌++◌, Option, Some, None, is_some, slice_get, if◌then◌else◌}
 use Rattle.cc_base.specs.declared.place.FileId.{FileId}
 use Rattle.cc_arena.specs.Arenas.{node_of}
 use Rattle.cc_arena.specs.declared.arena.Placed.{Placed}

@@ -1,15 +1,16 @@
 // Entries and functions of the environment.
 ghost use Rattle.std.specs.Prelude.{◌≡◌};
+ghost use Rattle.cc_types.specs.Shapes.{built, type_at, types_of};
 ghost use Rattle.cc_link_rules.specs.Callable as spec;
 
 use crate::fault::{Names, broken_if, next};
 use crate::linked::{Linked, Links};
 use crate::rule;
 use cc_base::{List, Text};
-use cc_types::{ExprType, Shape, TypeId, TypeTable};
+use cc_types::{Shape, TypeId, TypeTable};
 
 /// A name of the project file that breaks a rule.
-#[derive(Clone, Copy, Debug, PartialEq, Eq)]
+#[derive(Clone, Copy)]
 pub struct NameFault {
     pub list: Names,
     pub index: u32,
@@ -18,35 +19,45 @@ pub struct NameFault {
 
 // Whether a type is an integer type.
 fn is_integer(types: &TypeTable, kind: TypeId) -> bool
-    ensures { result ≡ spec.is_integer types.now kind }
+    ensures { result ≡ spec.is_integer (type_at (types_of types.now) kind) }
 {
     matches!(types.shape(kind), Shape::Integer(_, _))
 }
 
-// Whether a result is an integer or nothing.
+// Whether a type is an integer type or void.
 fn is_value(types: &TypeTable, kind: TypeId) -> bool
-    ensures { result ≡ spec.is_value types.now kind }
+    ensures { result ≡ spec.is_value (type_at (types_of types.now) kind) }
 {
     matches!(types.shape(kind), Shape::Integer(_, _) | Shape::Void(_))
 }
 
-/// Whether a function type takes integers and gives an integer or nothing.
-pub fn takes_numbers(types: &TypeTable, kind: TypeId) -> bool {
-    let mut kind = kind;
-    while let Shape::Takes(parameter, rest) = types.shape(kind) {
-        if !is_integer(types, parameter) || rest.0 >= kind.0 {
-            return false;
-        }
-        kind = rest;
-    }
-    match types.shape(kind) {
+// Whether a function without parameters gives an integer or nothing.
+fn gives_value(types: &TypeTable, shape: Shape) -> bool
+    ensures { result ≡ spec.gives_value (built (types_of types.now) shape) }
+{
+    match shape {
         Shape::Function(value) => is_value(types, value),
         _ => false,
     }
 }
 
+/// Whether a function type takes integers and gives an integer or nothing.
+pub fn takes_numbers(types: &TypeTable, kind: TypeId) -> bool
+    ensures { result ≡ spec.takes_numbers (type_at (types_of types.now) kind) }
+{
+    let mut shape = types.shape(kind);
+    let mut is_fine = true;
+    while let Shape::Takes(parameter, rest) = shape {
+        is_fine = is_fine && is_integer(types, parameter);
+        shape = types.shape(rest);
+    }
+    is_fine && gives_value(types, shape)
+}
+
 // K6 and K7 at an entry of which this is known.
-fn entry_rule(types: &TypeTable, linked: Option<Linked>) -> Option<u8> {
+fn entry_rule(types: &TypeTable, linked: Option<Linked>) -> Option<u8>
+    ensures { result ≡ spec.entry_rule (types_of types.now) linked }
+{
     match linked {
         Some(linked) if linked.is_function && linked.definition.is_some() => broken_if(
             !takes_numbers(types, linked.kind),
@@ -57,7 +68,9 @@ fn entry_rule(types: &TypeTable, linked: Option<Linked>) -> Option<u8> {
 }
 
 // K8 at a name of the environment's of which this is known.
-fn environment_rule(types: &TypeTable, linked: Option<Linked>) -> Option<u8> {
+fn environment_rule(types: &TypeTable, linked: Option<Linked>) -> Option<u8>
+    ensures { result ≡ spec.environment_rule (types_of types.now) linked }
+{
     match linked {
         Some(linked) if linked.is_function && linked.definition.is_none() => broken_if(
             !takes_numbers(types, linked.kind),
@@ -67,7 +80,10 @@ fn environment_rule(types: &TypeTable, linked: Option<Linked>) -> Option<u8> {
     }
 }
 
-fn rule_of(types: &TypeTable, list: Names, linked: Option<Linked>) -> Option<u8> {
+// The rule that a name of this list breaks.
+fn rule_of(types: &TypeTable, list: Names, linked: Option<Linked>) -> Option<u8>
+    ensures { result ≡ spec.rule_of (types_of types.now) list linked }
+{
     match list {
         Names::Entries => entry_rule(types, linked),
         Names::Environment => environment_rule(types, linked),
@@ -96,7 +112,9 @@ fn check_names(
     before: Option<NameFault>,
     list: Names,
     names: &List<Text>,
-) -> Option<NameFault> {
+) -> Option<NameFault>
+    ensures { result ≡ spec.names_checked links.now (types_of types.now) list 0 names.now before }
+{
     let mut first = before;
     let mut index = 0;
     for name in names.as_slice() {
@@ -113,7 +131,9 @@ pub fn check_all_names(
     types: &TypeTable,
     entries: &List<Text>,
     environment: &List<Text>,
-) -> Option<NameFault> {
+) -> Option<NameFault>
+    ensures { result ≡ spec.all_checked links.now (types_of types.now) entries.now environment.now }
+{
     let first = check_names(links, types, None, Names::Entries, entries);
     check_names(links, types, first, Names::Environment, environment)
 }

@@ -5,7 +5,7 @@ ghost use Rattle.cc_link_rules.specs.Faults as spec;
 use cc_base::{FileId, Place, Spot};
 
 /// A rule that is broken, by its number, and the place.
-#[derive(Clone, Copy, Debug, PartialEq, Eq)]
+#[derive(Clone, Copy)]
 pub struct Fault {
     pub place: Place,
     pub rule: u8,

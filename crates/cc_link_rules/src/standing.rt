@@ -11,7 +11,7 @@ use cc_types::TypeId;
 use std::alloc::Global;
 
 /// What a declaration is in the whole program.
-#[derive(Clone, Copy, Debug, PartialEq, Eq)]
+#[derive(Clone, Copy)]
 pub struct Standing {
     /// The first declaration of the same function or object.
     pub first: u32,

@@ -1,4 +1,4 @@
-use Rattle.std.proofs.Common.{ap, sym, ◌∙◌}
+use Rattle.std.proofs.Common.{ap, ◌∙◌}
 use Rattle.cc_link_rules.specs.Linked.{put}
 use Rattle.cc_link_rules.proofs.Entries.{names_in, insert_put}
 use Rattle.cc_link_rules.proofs.linked.Links.put.Goals as goal
