@@ -213,8 +213,9 @@ impl<'a> Checker<'a> {
         ensures { result ≡ spec.is_void_alone self.now kinds.now }
     {
         match kinds {
+            [] => false,
             [kind] => self.is_void_type(*kind),
-            _ => false,
+            [_, _, ..] => false,
         }
     }
 
