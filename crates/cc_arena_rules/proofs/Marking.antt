@@ -14,17 +14,17 @@ use Rattle.cc_arena_rules.specs.Looks.{named}
 use Rattle.cc_arena_rules.specs.Variables.{takes, marked, marked_if, taken_from, TakesOf, AreTaken}
 
 -- the new flags are the old ones, with those set besides that P says
-record Sets (old new : List Bool) (P : ℕ → Type 0) : Type 0 where
-  long : length new ≡ length old
-  only : (d : ℕ) → slice_get new d ≡ Some true → (slice_get old d ≡ Some true) ⊎ P d
-  kept : (d : ℕ) → slice_get old d ≡ Some true → slice_get new d ≡ Some true
-  gained : (d : ℕ) → d < length old → P d → slice_get new d ≡ Some true
+pub record Sets (old new : List Bool) (P : ℕ → Type 0) : Type 0 where
+  pub long : length new ≡ length old
+  pub only : (d : ℕ) → slice_get new d ≡ Some true → (slice_get old d ≡ Some true) ⊎ P d
+  pub kept : (d : ℕ) → slice_get old d ≡ Some true → slice_get new d ≡ Some true
+  pub gained : (d : ℕ) → d < length old → P d → slice_get new d ≡ Some true
 
-either : {A B C : Type 0} → (A → C) → (B → C) → A ⊎ B → C
+pub either : {A B C : Type 0} → (A → C) → (B → C) → A ⊎ B → C
 either f g (inl a) = f a
 either f g (inr b) = g b
 
-sets_on : {a b c : List Bool} {P Q : ℕ → Type 0} → Sets a b P → Sets b c Q → Sets a c (λ d. P d ⊎ Q d)
+pub sets_on : {a b c : List Bool} {P Q : ℕ → Type 0} → Sets a b P → Sets b c Q → Sets a c (λ d. P d ⊎ Q d)
 sets_on {a} {b} {c} {P} {Q} h g = record {
   long = g.long ∙ h.long;
   only = λ d has. either (λ old. either inl (λ p. inr (inl p)) (h.only d old)) (λ q. inr (inr q)) (g.only d has);
@@ -32,7 +32,7 @@ sets_on {a} {b} {c} {P} {Q} h g = record {
   gained = λ d w says. either (λ p. g.kept d (h.gained d w p)) (λ q. g.gained d (subst (λ n. d < n) (sym h.long) w) q) says;
 }
 
-sets_as : {a b : List Bool} {P Q : ℕ → Type 0} → ((d : ℕ) → P d → Q d) → ((d : ℕ) → Q d → P d) → Sets a b P → Sets a b Q
+pub sets_as : {a b : List Bool} {P Q : ℕ → Type 0} → ((d : ℕ) → P d → Q d) → ((d : ℕ) → Q d → P d) → Sets a b P → Sets a b Q
 sets_as to from h = record {
   long = h.long;
   only = λ d has. either inl (λ p. inr (to d p)) (h.only d has);
@@ -40,7 +40,7 @@ sets_as to from h = record {
   gained = λ d w q. h.gained d w (from d q);
 }
 
-sets_none : (a : List Bool) → Sets a a (λ d. ⊥)
+pub sets_none : (a : List Bool) → Sets a a (λ d. ⊥)
 sets_none a = record {
   long = refl;
   only = λ d has. inl has;
@@ -48,7 +48,7 @@ sets_none a = record {
   gained = λ d w no. absurd no;
 }
 
-sets_one : (flags : List Bool) (e : ℕ) → Sets flags (slice_set flags e true) (λ d. e ≡ d)
+pub sets_one : (flags : List Bool) (e : ℕ) → Sets flags (slice_set flags e true) (λ d. e ≡ d)
 sets_one flags e = record {
   long = length-set flags e true;
   only = λ d has. either (λ same. inr (sym same.1)) (λ differ. inl (sym (slice_get-set_other flags e d true differ.1) ∙ has)) (eqb_tells d e);
@@ -67,6 +67,17 @@ marked_if_sets : (takes : Bool) (declaration : Option ℕ) (flags : List Bool) �
 marked_if_sets true (Some e) flags = sets_as (λ d p. (refl, ap Some p)) (λ d q. let h = q.1 in cc) (sets_one flags e)
 marked_if_sets true None flags = sets_as (λ d no. absurd no) (λ d q. let h = q.1 in cc) (sets_none flags)
 marked_if_sets false declaration flags = sets_as (λ d no. absurd no) (λ d q. let h = q.0 in cc) (sets_none flags)
+
+pub grown_is : {X : Type 0} (n : ℕ) (x : X) → grown [] n x ≡ replicate n x
+grown_is n x = ap (λ m. replicate m x) (let e : n - 0 ≡ n = omega arith in e)
+
+pub none_set : (m d : ℕ) → slice_get (replicate m false) d ≡ Some true → ⊥
+none_set m d has =
+    let within : d < length (replicate m false) = slice_get_within (replicate m false) d true has in
+    let small : d < m = omega (arith, length-replicate m false) in
+    let is : get_or (replicate m false) d false ≡ true = get_or_from_slice_get (replicate m false) d true false has in
+    let no : get_or (replicate m false) d false ≡ false = get_or-replicate m d false false small in
+    cc
 
 module _ (S : Symbols) (around : List Around) (start : ℕ) where
   -- the node n, which is x, takes the address of the variable of the declaration d
@@ -89,23 +100,16 @@ module _ (S : Symbols) (around : List Around) (start : ℕ) where
   taken_sets [] n flags = sets_as (λ d no. absurd no) (λ d (i, x, at, says). cc) (sets_none flags)
   taken_sets (x ∷ xs) n flags = sets_as (to_one x xs n) (from_one x xs n) (sets_on (marked_if_sets (takes x.node (answer_at around start n)) (named S n) flags) (taken_sets xs (n + 1) (marked_if (takes x.node (answer_at around start n)) (named S n) flags)))
 
-  none_set : (m d : ℕ) → slice_get (replicate m false) d ≡ Some true → ⊥
-  none_set m d has =
-      let within : d < length (replicate m false) = slice_get_within (replicate m false) d true has in
-      let small : d < m = omega (arith, length-replicate m false) in
-      let is : get_or (replicate m false) d false ≡ true = get_or_from_slice_get (replicate m false) d true false has in
-      let no : get_or (replicate m false) d false ≡ false = get_or-replicate m d false false small in
-      cc
-
   pub are_taken : (nodes : List Placed) (flags : List Bool) → flags ≡ taken_from S around start nodes start (grown [] (length S.declared) false) → AreTaken S around start nodes flags
   are_taken nodes flags is =
       let empty : List Bool = grown [] (length S.declared) false in
       let h = taken_sets nodes start empty in
-      let count : length empty ≡ length S.declared = length-replicate (length S.declared) false in
+      let is_empty : empty ≡ replicate (length S.declared) false = grown_is (length S.declared) false in
+      let count : length empty ≡ length S.declared = ap length is_empty ∙ length-replicate (length S.declared) false in
       let goal : AreTaken S around start nodes (taken_from S around start nodes start empty) = record {
         long = h.long ∙ count;
         only = λ d has. either
-            (λ old. absurd (none_set (length S.declared) d old))
+            (λ old. absurd (none_set (length S.declared) d (subst (λ (l : List Bool). slice_get l d ≡ Some true) is_empty old)))
             (λ (i, x, at, says). record { place = i; placed = x; there = at; takes = says.0; named = says.1 })
             (h.only d has);
         each = λ d w t. h.gained d (subst (λ n. d < n) (sym count) w) (t.place, t.placed, t.there, t.takes, t.named);

@@ -14,7 +14,7 @@ use Rattle.cc_arena_rules.specs.declared.repeats.Meetings.{Meetings}
 use Rattle.cc_arena_rules.specs.Inherited.{answer_at}
 use Rattle.cc_arena_rules.specs.Looks.{flat, named}
 use Rattle.cc_arena_rules.specs.Repeats.{whole_of, marked, both_marked, last_of, met, met_from, no_meetings, Occurs, OccursTwice, AreStretches, AreRepeats}
-use Rattle.cc_arena_rules.proofs.Marking.{Sets, either, sets_on, sets_as, sets_none, sets_one, none_set}
+use Rattle.cc_arena_rules.proofs.Marking.{Sets, either, sets_on, sets_as, sets_none, sets_one, none_set, grown_is}
 
 marked_sets : (start n : ℕ) (flags : List Bool) → Sets flags (marked start n flags) (λ i. n ≡ start + i)
 marked_sets start n flags = either
@@ -30,13 +30,13 @@ both_marked_sets : (start n whole : ℕ) (last : Option Met) (flags : List Bool)
 both_marked_sets start n whole None flags = sets_as (λ i no. absurd no) (λ i (y, e, same, which). cc) (sets_none flags)
 both_marked_sets start n whole (Some x) flags = either
     (λ yes. rw yes.0 (sets_as
-        (λ i p. (x, refl, yes.1, p))
-        (λ i (y, e, same, which). let is : x ≡ y = cc in subst (λ z. (z.node ≡ start + i) ⊎ (n ≡ start + i)) (sym is) which)
-        (sets_on (marked_sets start x.node flags) (marked_sets start n (marked start x.node flags)))))
+    (λ i p. (x, refl, yes.1, p))
+    (λ i (y, e, same, which). let is : x ≡ y = cc in subst (λ z. (z.node ≡ start + i) ⊎ (n ≡ start + i)) (sym is) which)
+    (sets_on (marked_sets start x.node flags) (marked_sets start n (marked start x.node flags)))))
     (λ no. rw no.0 (sets_as
-        (λ i p. absurd p)
-        (λ i (y, e, same, which). let is : x ≡ y = cc in absurd (no.1 (ap (λ (z : Met). z.whole) is ∙ same)))
-        (sets_none flags)))
+    (λ i p. absurd p)
+    (λ i (y, e, same, which). let is : x ≡ y = cc in absurd (no.1 (ap (λ (z : Met). z.whole) is ∙ same)))
+    (sets_none flags)))
     (eqb_tells x.whole whole)
 
 last_same : (xs : List (Option Met)) (d : ℕ) (x y : Met) → last_of (slice_set xs d (Some x)) d ≡ Some y → x ≡ y
@@ -85,7 +85,7 @@ module _ (S : Symbols) (around : List Around) (start : ℕ) (nodes : List Placed
 
   -- no name is met at p
   skipped : (p : ℕ) (m : Meetings) → ((w d : ℕ) → O p w d → ⊥) → Stood p m → Stood (p + 1) m
-  skipped p m no h = record {
+  skipped p m never h = record {
     long = h.long;
     wide = h.wide;
     latest = λ d y e. let l = h.latest d y e in record {
@@ -94,17 +94,17 @@ module _ (S : Symbols) (around : List Around) (start : ℕ) (nodes : List Placed
       is = l.is;
       occurs = l.occurs;
       none = λ j w above below o. either
-          (λ same. no w d (subst (λ k. O k w d) same.1 o))
+          (λ same. never w d (subst (λ k. O k w d) same.1 o))
           (λ differ. l.none j w above (omega (arith, below, differ.1)) o)
           (eqb_tells j p);
     };
     known = λ i w d below few o. either
-        (λ same. absurd (no w d (subst (λ k. O k w d) same.1 o)))
+        (λ same. absurd (never w d (subst (λ k. O k w d) same.1 o)))
         (λ differ. h.known i w d (omega (arith, below, differ.1)) few o)
         (eqb_tells i p);
     only = h.only;
     each = λ apart i j w d less below few o q. either
-        (λ same. absurd (no w d (subst (λ k. O k w d) same.1 q)))
+        (λ same. absurd (never w d (subst (λ k. O k w d) same.1 q)))
         (λ differ. h.each apart i j w d less (omega (arith, below, differ.1)) few o q)
         (eqb_tells j p);
   }
@@ -126,62 +126,62 @@ module _ (S : Symbols) (around : List Around) (start : ℕ) (nodes : List Placed
     latest_then : (e : ℕ) (y : Met) → last_of after.last e ≡ Some y → Latest (p + 1) e y
     latest_then e y last = either
         (λ same.
-          let at_d : last_of after.last d ≡ Some y = subst (λ k. last_of after.last k ≡ Some y) same.1 last in
-          let is : new ≡ y = last_same m.last d new y at_d in
-          record {
-            place = p;
-            before = omega arith;
-            is = ap (λ (z : Met). z.node) (sym is);
-            occurs = subst (λ k. O p y.whole k) (sym same.1) (subst (λ (z : Met). O p z.whole d) is here);
-            none = λ j v above below o. omega (arith, above, below);
-          })
+        let at_d : last_of after.last d ≡ Some y = subst (λ k. last_of after.last k ≡ Some y) same.1 last in
+        let is : new ≡ y = last_same m.last d new y at_d in
+        record {
+          place = p;
+          before = omega arith;
+          is = ap (λ (z : Met). z.node) (sym is);
+          occurs = subst (λ k. O p y.whole k) (sym same.1) (subst (λ (z : Met). O p z.whole d) is here);
+          none = λ j v above below o. omega (arith, above, below);
+        })
         (λ differ.
-          let l = h.latest e y (sym (last_other m.last d e new differ.1) ∙ last) in
-          record {
-            place = l.place;
-            before = omega (arith, l.before);
-            is = l.is;
-            occurs = l.occurs;
-            none = λ j v above below o. either
-                (λ same. differ.1 (same_names p v w e d (subst (λ k. O k v e) same.1 o) here))
-                (λ other. l.none j v above (omega (arith, below, other.1)) o)
-                (eqb_tells j p);
-          })
+        let l = h.latest e y (sym (last_other m.last d e new differ.1) ∙ last) in
+        record {
+          place = l.place;
+          before = omega (arith, l.before);
+          is = l.is;
+          occurs = l.occurs;
+          none = λ j v above below o. either
+              (λ same. differ.1 (same_names p v w e d (subst (λ k. O k v e) same.1 o) here))
+              (λ other. l.none j v above (omega (arith, below, other.1)) o)
+              (eqb_tells j p);
+        })
         (eqb_tells e d)
 
     known_then : (i v e : ℕ) → i < p + 1 → e < length S.declared → O i v e → (y : Met) × (last_of after.last e ≡ Some y)
     known_then i v e below few o = either
         (λ same. (new, subst (λ k. last_of after.last k ≡ Some new) (sym same.1) (last_put m.last d new (omega (arith, same.1, few, h.wide)))))
         (λ differ. either
-            (λ same. absurd (differ.1 (same_names p v w e d (subst (λ k. O k v e) same.1 o) here)))
-            (λ other. let k = h.known i v e (omega (arith, below, other.1)) few o in (k.0, last_other m.last d e new differ.1 ∙ k.1))
-            (eqb_tells i p))
+        (λ same. absurd (differ.1 (same_names p v w e d (subst (λ k. O k v e) same.1 o) here)))
+        (λ other. let k = h.known i v e (omega (arith, below, other.1)) few o in (k.0, last_other m.last d e new differ.1 ∙ k.1))
+        (eqb_tells i p))
         (eqb_tells e d)
 
     only_then : (i : ℕ) → slice_get after.flags i ≡ Some true → OccursTwice S around start nodes i
     only_then i has = either
         (h.only i)
         (λ (y, last, same, which).
-          let l = h.latest d y last in
-          let first : O l.place w d = subst (λ k. O l.place k d) same l.occurs in
-          either
-            (λ at. let is : l.place ≡ i = omega (arith, at, l.is) in record {
-              whole = w;
-              declaration = d;
-              other = p;
-              differs = λ e. omega (arith, e, is, l.before);
-              one = subst (λ k. O k w d) is first;
-              two = here;
-            })
-            (λ at. let is : p ≡ i = omega (arith, at) in record {
-              whole = w;
-              declaration = d;
-              other = l.place;
-              differs = λ e. omega (arith, e, is, l.before);
-              one = subst (λ k. O k w d) is here;
-              two = first;
-            })
-            which)
+        let l = h.latest d y last in
+        let first : O l.place w d = subst (λ k. O l.place k d) same l.occurs in
+        either
+        (λ at. let is : l.place ≡ i = omega (arith, at, l.is) in record {
+          whole = w;
+          declaration = d;
+          other = p;
+          differs = λ e. omega (arith, e, is, l.before);
+          one = subst (λ k. O k w d) is first;
+          two = here;
+        })
+        (λ at. let is : p ≡ i = omega (arith, at) in record {
+          whole = w;
+          declaration = d;
+          other = l.place;
+          differs = λ e. omega (arith, e, is, l.before);
+          one = subst (λ k. O k w d) is here;
+          two = first;
+        })
+        which)
         (sets.only i has)
 
     -- a name at i stands in the full expression of the one at p
@@ -192,25 +192,25 @@ module _ (S : Symbols) (around : List Around) (start : ℕ) (nodes : List Placed
         let l = h.latest d y k.1 in
         let not_after : l.place < i → ⊥ = λ above. l.none i w above less o in
         either
-          (λ same.
-            let whole : y.whole ≡ w = same_whole i y.whole w d d (subst (λ j. O j y.whole d) (sym same.1) l.occurs) o in
-            let at : y.node ≡ start + i = omega (arith, l.is, same.1) in
-            (sets.gained i (within_flags i w d m h.long o) (y, k.1, whole, inl at), sets.gained p (within_flags p w d m h.long here) (y, k.1, whole, inr refl)))
-          (λ differ.
-            let below : i < l.place = either (λ le. absurd (not_after (omega (arith, le.1, differ.1)))) (λ lt. lt.1) (leb_tells l.place i) in
-            let whole : y.whole ≡ w = apart i l.place p w y.whole d below l.before o l.occurs here in
-            let first : O l.place w d = subst (λ v. O l.place v d) whole l.occurs in
-            (sets.kept i (h.each apart i l.place w d below l.before few o first).0, sets.gained p (within_flags p w d m h.long here) (y, k.1, whole, inr refl)))
-          (eqb_tells i l.place)
+        (λ same.
+        let whole : y.whole ≡ w = same_whole i y.whole w d d (subst (λ j. O j y.whole d) (sym same.1) l.occurs) o in
+        let at : y.node ≡ start + i = omega (arith, l.is, same.1) in
+        (sets.gained i (within_flags i w d m h.long o) (y, k.1, whole, inl at), sets.gained p (within_flags p w d m h.long here) (y, k.1, whole, inr refl)))
+        (λ differ.
+        let below : i < l.place = either (λ le. absurd (not_after (omega (arith, le.1, differ.1)))) (λ lt. lt.1) (leb_tells l.place i) in
+        let whole : y.whole ≡ w = apart i l.place p w y.whole d below l.before o l.occurs here in
+        let first : O l.place w d = subst (λ v. O l.place v d) whole l.occurs in
+        (sets.kept i (h.each apart i l.place w d below l.before few o first).0, sets.gained p (within_flags p w d m h.long here) (y, k.1, whole, inr refl)))
+        (eqb_tells i l.place)
 
     each_then : AreStretches S around start nodes → (i j v e : ℕ) → i < j → j < p + 1 → e < length S.declared → O i v e → O j v e → (slice_get after.flags i ≡ Some true) × (slice_get after.flags j ≡ Some true)
     each_then apart i j v e less below few o q = either
         (λ same.
-          let at_p : O p v e = subst (λ k. O k v e) same.1 q in
-          let names : e ≡ d = same_names p v w e d at_p here in
-          let whole : v ≡ w = same_whole p v w e d at_p here in
-          let first : O i w d = subst (λ k. O i w k) names (subst (λ k. O i k e) whole o) in
-          subst (λ k. (slice_get after.flags i ≡ Some true) × (slice_get after.flags k ≡ Some true)) (sym same.1) (pair apart i (omega (arith, less, same.1)) (subst (λ k. k < length S.declared) names few) first))
+        let at_p : O p v e = subst (λ k. O k v e) same.1 q in
+        let names : e ≡ d = same_names p v w e d at_p here in
+        let whole : v ≡ w = same_whole p v w e d at_p here in
+        let first : O i w d = subst (λ k. O i w k) names (subst (λ k. O i k e) whole o) in
+        subst (λ k. (slice_get after.flags i ≡ Some true) × (slice_get after.flags k ≡ Some true)) (sym same.1) (pair apart i (omega (arith, less, same.1)) (subst (λ k. k < length S.declared) names few) first))
         (λ differ. let old = h.each apart i j v e less (omega (arith, below, differ.1)) few o q in (sets.kept i old.0, sets.kept j old.1))
         (eqb_tells j p)
 
@@ -249,14 +249,17 @@ module _ (S : Symbols) (around : List Around) (start : ℕ) (nodes : List Placed
   no_last (suc m) (suc d) y h = no_last m d y h
 
   none_stood : Stood 0 (no_meetings S nodes)
-  none_stood = record {
-    long = length-replicate (length nodes) false;
-    wide = length-replicate (length S.declared) None;
-    latest = λ d y e. absurd (no_last (length S.declared) d y e);
-    known = λ i w d below few o. omega (arith, below);
-    only = λ i has. absurd (none_set (length nodes) i has);
-    each = λ apart i j w d less below few o q. omega (arith, below);
-  }
+  none_stood =
+      let flags : grown [] (length nodes) false ≡ replicate (length nodes) false = grown_is (length nodes) false in
+      let last : grown {X = Option Met} [] (length S.declared) None ≡ replicate (length S.declared) None = grown_is (length S.declared) None in
+      record {
+        long = ap length flags ∙ length-replicate (length nodes) false;
+        wide = ap length last ∙ length-replicate {A = Option Met} (length S.declared) None;
+        latest = λ d y e. absurd (no_last (length S.declared) d y (subst (λ (l : List (Option Met)). last_of l d ≡ Some y) last e));
+        known = λ i w d below few o. absurd (omega (arith, below));
+        only = λ i has. absurd (none_set (length nodes) i (subst (λ (l : List Bool). slice_get l i ≡ Some true) flags has));
+        each = λ apart i j w d less below few o q. absurd (omega (arith, below));
+      }
 
   pub are_repeats : (flags : List Bool) → flags ≡ (met_from S around start nodes start (no_meetings S nodes)).flags → AreRepeats S around start nodes flags
   are_repeats flags is =
@@ -270,8 +273,8 @@ module _ (S : Symbols) (around : List Around) (start : ℕ) (nodes : List Placed
             let a = slice_get_within nodes i t.one.placed t.one.there in
             let b = slice_get_within nodes t.other t.two.placed t.two.there in
             either
-              (λ le. (h.each apart t.other i t.whole t.declaration (omega (arith, le.1, t.differs)) a few t.two t.one).1)
-              (λ lt. (h.each apart i t.other t.whole t.declaration lt.1 b few t.one t.two).0)
-              (leb_tells t.other i);
+            (λ le. (h.each apart t.other i t.whole t.declaration (omega (arith, le.1, t.differs)) a few t.two t.one).1)
+            (λ lt. (h.each apart i t.other t.whole t.declaration lt.1 b few t.one t.two).0)
+            (leb_tells t.other i);
       } in
       rw is goal

@@ -1,5 +1,5 @@
 -- Functions with bodies.
-use Rattle.std.specs.Prelude.{ℕ, suc, Bool, true, false, not, ◌&&◌, ◌||◌, List, Option, Some, None}
+use Rattle.std.specs.Prelude.{ℕ, zero, suc, Bool, true, false, not, ◌&&◌, ◌||◌, List, Option, Some, None}
 use Rattle.cc_tree.specs.Trees.{Name, SpecTrees, DeclTree, TypeTrees, BlockTree}
 use Rattle.cc_tree_notes.specs.declared.note.Counted.{Counted}
 use Rattle.cc_types.specs.declared.shape.Shape.{Shape}
@@ -68,16 +68,20 @@ head_said n d p = head_formed n d p.1 (declarator p.1.kind true d p.0)
 abbrev pub head : Counted → SpecTrees Counted → DeclTree Counted → Checker → Checker × Option TypeId
 head n ss d c = head_said n d (specifiers at.File n ss c)
 
--- what a function gives, behind at most so many parameters
-abbrev mutual
-  pub returned_in : List Shape → ℕ → TypeId → Option TypeId
-  returned_in types 0 t = None
-  returned_in types (suc m) t = returned_of types m (shape_of types t)
+-- what stands behind the first parameter
+abbrev pub rest_of : TypeId → Shape → TypeId
+rest_of t (s.Takes p f) = f
+rest_of t a = t
 
-  pub returned_of : List Shape → ℕ → Shape → Option TypeId
-  returned_of types m (s.Takes p f) = returned_in types m f
-  returned_of types m (s.Function t) = Some t
-  returned_of types m a = None
+abbrev pub returned_step : Shape → Option TypeId → Option TypeId
+returned_step (s.Takes p f) rest = rest
+returned_step (s.Function t) rest = Some t
+returned_step a rest = None
+
+-- what a function gives, behind fewer than so many parameters
+abbrev pub returned_in : List Shape → ℕ → TypeId → Option TypeId
+returned_in types zero t = None
+returned_in types (suc m) t = returned_step (shape_of types t) (returned_in types m (rest_of t (shape_of types t)))
 
 abbrev pub returned_by_type : List Shape → TypeId → Option TypeId
 returned_by_type types t = returned_in types t.0 t

@@ -1,5 +1,6 @@
 -- Storage classes, `inline`, and what they make of a declarator.
-use Rattle.std.specs.Prelude.{Bool, true, false, not, ◌&&◌, ◌||◌, is_some, is_none, List, [], ◌∷◌, Option, Some, None, if◌then◌else◌}
+use Rattle.std.specs.Prelude.{Bool, true, false, not, ◌&&◌, ◌||◌, is_some, List, [], ◌∷◌, Option, Some, None, if◌then◌else◌}
+use Rattle.std.specs.Option.{is_none}
 use Rattle.cc_tree.specs.declared.operator.SpecWord.{SpecWord}
 use Rattle.cc_tree.specs.declared.operator.SpecWord.TheVariants as w
 use Rattle.cc_tree.specs.Trees.{InitTree, init, ValueTree}

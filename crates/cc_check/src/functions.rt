@@ -104,7 +104,7 @@ fn returned_by_type(types: &TypeTable, kind: TypeId) -> Option<TypeId>
     ensures { result ≡ spec.returned_by_type types.now kind }
 {
     let mut rest = kind;
-    for _ in 0..kind.0 {
+    for step in 0..kind.0 {
         match types.shape(rest) {
             Shape::Takes(_, others) => rest = others,
             Shape::Function(value) => return Some(value),
