@@ -2,8 +2,10 @@
 use Rattle.std.specs.Prelude.{ℕ, ◌≡◌, ◌⊎◌, List, [], ◌∷◌, length, Option, Some, None}
 use Rattle.cc_arena.specs.declared.arena.Arena.{Arena}
 use Rattle.cc_project.specs.Project.{Project}
+use Rattle.cc_symbols.specs.declared.known.Known.{Known}
 use Rattle.cc_symbols.specs.declared.symbols.Symbols.{Symbols}
 use Rattle.cc_symbols.specs.declared.unit.CheckedUnit.{CheckedUnit}
+use Rattle.cc_types.specs.declared.structs.StructEntry.{StructEntry}
 use Rattle.cc_types.specs.Shapes.{types_of}
 use Rattle.cc_link.specs.declared.fault.LinkFault.{LinkFault}
 use Rattle.cc_link.specs.declared.fault.LinkFault.TheVariants.{Offence, Name, Memory}
@@ -61,3 +63,11 @@ refused s a us p = refusal_of s a us p []
 -- want of memory, or what is refused
 abbrev pub IsRefusal : LinkFault → Option LinkFault → Type 0
 IsRefusal fault r = (fault ≡ Memory) ⊎ (r ≡ Some fault)
+
+abbrev pub symbols_with : Symbols → List StructEntry → Symbols
+symbols_with s es =
+    record { types = s.types; structs = es; depths = s.depths; tags = s.tags; tagged = s.tagged; lists = s.lists; unnamed = s.unnamed; declared = s.declared; texts = s.texts; names = s.names; kinds = s.kinds }
+
+-- what is known, with the structs of the whole project
+abbrev pub with_structs : Known → List StructEntry → Known
+with_structs k es = record { symbols = symbols_with k.symbols es; found = k.found }

@@ -3,7 +3,7 @@ ghost use Rattle.std.specs.Prelude.{◌≡◌, None, IfOk, IfErr, OnOk};
 ghost use Rattle.cc_link.specs.Joining as spec;
 
 use crate::fault::LinkFault;
-use crate::numbers::{Numbers, all_numbers};
+use crate::numbers::all_numbers;
 use crate::tables;
 use cc_arena::Arena;
 use cc_base::{List, Memory, Text};
@@ -12,9 +12,9 @@ use cc_link_rules::{
     definitions, end_files, lesser, link_files, link_tags, link_typedefs, mark_all, standings,
     use_all, whole_structs,
 };
-use cc_program::{FileEntry, FuncId, Function, Program, Variable};
+use cc_program::{FileEntry, FuncId, Function, Program, Referent, Variable};
 use cc_project::Project;
-use cc_symbols::{CheckedUnit, Known, Symbols};
+use cc_symbols::{CheckedUnit, Known, Slots, Symbols};
 use cc_types::Structs;
 use std::alloc::Global;
 
@@ -129,7 +129,7 @@ fn judge<'a>(
 #[derive(Drop)]
 struct Tables {
     structs: Structs,
-    numbers: Numbers,
+    referents: Slots<Option<Referent>>,
     functions: List<Function>,
     variables: List<Variable>,
     entries: List<FuncId>,
@@ -155,7 +155,7 @@ fn made_tables(
         entries: tables::entries(alloc, links, &numbers, &project.entries)?,
         files: tables::files(alloc, &project.files, units)?,
         components: tables::copied_texts(alloc, &project.components)?,
-        numbers,
+        referents: numbers.referents,
     })
 }
 
@@ -187,6 +187,15 @@ fn joined(
     }
 }
 
+// What is known, with the structs of the whole project.
+fn with_structs(known: Known, structs: Structs) -> Known
+    ensures { result ≡ spec.with_structs known structs }
+{
+    let mut known = known;
+    known.symbols.structs = structs;
+    known
+}
+
 /// The program that the checked files of a project make. `units` has one unit for each file, in the order of the project;
 /// `known` and `arena` are what the checking of the last one left.
 ///
@@ -203,12 +212,10 @@ pub fn link(
         spec.IsRefusal fault (spec.refused known.symbols arena units.now project.now)) }
 {
     let tables = joined(alloc, &known.symbols, &arena, units.as_slice(), project)?;
-    let mut known = known;
-    known.symbols.structs = tables.structs;
     Ok(Program {
         arena,
-        known,
-        referents: tables.numbers.referents,
+        known: with_structs(known, tables.structs),
+        referents: tables.referents,
         functions: tables.functions,
         variables: tables.variables,
         components: tables.components,
