@@ -112,6 +112,6 @@ module _ (S : Symbols) (around : List Around) (start : ℕ) where
             (λ old. absurd (none_set (length S.declared) d (subst (λ (l : List Bool). slice_get l d ≡ Some true) is_empty old)))
             (λ (i, x, at, says). record { place = i; placed = x; there = at; takes = says.0; named = says.1 })
             (h.only d has);
-        each = λ d w t. h.gained d (subst (λ n. d < n) (sym count) w) (t.place, t.placed, t.there, t.takes, t.named);
+        each = λ d w t. h.gained d (subst (λ n. d < n) (sym count) w) (t.place, t.placed, t.there, (t.takes, t.named));
       } in
       rw is goal

@@ -114,10 +114,10 @@ module _ (S : Symbols) (around : List Around) (start : ℕ) (nodes : List Placed
 
   -- a name of d is met at p
   module _ (p w d : ℕ) (m : Meetings) (here : O p w d) (h : Stood p m) where
-    new : Met
+    abbrev new : Met
     new = record { node = start + p; whole = w }
 
-    after : Meetings
+    abbrev after : Meetings
     after = met start (start + p) (Some w) (Some d) m
 
     sets : Sets m.flags after.flags (Pairs start (start + p) w (last_of m.last d))
@@ -265,7 +265,7 @@ module _ (S : Symbols) (around : List Around) (start : ℕ) (nodes : List Placed
   are_repeats flags is =
       let none : start + 0 ≡ start = omega arith in
       let done = no_meetings S nodes in
-      let h : Stood (length nodes) (met_from S around start nodes start done) = subst (λ n. Stood (length nodes) (met_from S around start nodes n done)) none (all_more nodes 0 done (λ i x e. e) none_stood) in
+      let h : Stood (length nodes) (met_from S around start nodes start done) = subst (λ n. Stood (length nodes) (met_from S around start nodes n done)) none (subst (λ k. Stood k (met_from S around start nodes (start + 0) done)) (let f : 0 + length nodes ≡ length nodes = omega arith in f) (all_more nodes 0 done (λ i x e. subst (λ k. slice_get nodes k ≡ Some x) (let f : i ≡ 0 + i = omega arith in f) e) none_stood)) in
       let goal : AreRepeats S around start nodes (met_from S around start nodes start done).flags = record {
         long = h.long;
         only = h.only;

@@ -34,7 +34,7 @@ offence_at j n x (Some around) = offence_of x (rule_at j n x around)
 offence_at j n x None = None
 
 -- the lesser one of what was found and the offence at the node n
-abbrev pub lesser_at : Judged → List Around → ℕ → Placed → Option Offence → Option Offence
+unfoldable pub lesser_at : Judged → List Around → ℕ → Placed → Option Offence → Option Offence
 lesser_at j around n x found = lesser found (offence_at j n x (answer_at around j.start n))
 
 -- the least of what was found and of the offences at the nodes from the n-th on

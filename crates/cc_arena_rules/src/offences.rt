@@ -60,6 +60,7 @@ fn offence_at(judging: &Judging, n: u32, placed: Placed, own: Option<Around>) ->
 }
 
 // The lesser one of what was found and the offence at the node `n`.
+#[tactic(auto, unfolding(crate::specs::Least::lesser_at))]
 fn lesser_at(
     judging: &Judging,
     around: &[Around],
