@@ -1,6 +1,5 @@
 -- The types that the forms of a declarator make, and the rules on them.
-use Rattle.std.specs.Prelude.{ℕ, ℤ, pos, int_le, int_lt, nat_lt, Bool, true, false, not, ◌||◌, ◌&&◌, Option, Some, None, List, [], ◌∷◌, reverse, if◌then◌else◌}
-use Rattle.cc_symbols.specs.declared.offence.Offence.{Offence}
+use Rattle.std.specs.Prelude.{ℕ, ℤ, pos, nat_lt, Bool, true, false, not, ◌||◌, ◌&&◌, Option, Some, None, List, [], ◌∷◌, reverse, if◌then◌else◌}
 use Rattle.cc_tree_notes.specs.declared.note.Counted.{Counted}
 use Rattle.cc_types.specs.Depths.{caught_up, depth_in}
 use Rattle.cc_types.specs.Interning as interning

@@ -1,5 +1,5 @@
 -- What rules on declarations ask of types.
-use Rattle.std.specs.Prelude.{ℕ, Bool, true, false, not, ◌&&◌, ◌||◌, nat_lt, Option, Some, None}
+use Rattle.std.specs.Prelude.{Bool, true, false, not, ◌&&◌, ◌||◌, nat_lt, Option, Some, None}
 use Rattle.cc_types.specs.Interning.{shape_of, is_function}
 use Rattle.cc_types.specs.Measures.{measure_of}
 use Rattle.cc_types.specs.Shapes.{built, types_of}

@@ -64,7 +64,11 @@ impl<'a> Checker<'a> {
             Some(t) => {
                 let is_broken = is_void(self.symbols.types.shape(t));
                 let made = self.symbols.types.intern(Shape::Pointer(is_const, t))?;
-                Ok(shaped.faulted_if(is_broken, note, rule::POINTER_TO_VOID).with_kind(Some(made)))
+                Ok(
+                    shaped
+                        .faulted_if(is_broken, note, rule::POINTER_TO_VOID)
+                        .with_kind(Some(made)),
+                )
             }
         }
     }
@@ -95,7 +99,11 @@ impl<'a> Checker<'a> {
         let made = self.symbols.types.array(element, length_of(length))?;
         let is_large = self.has_too_many_cells(self.symbols.types.shape(made));
         let is_broken = is_wrong_length(length, may_lack) || is_large;
-        Ok(shaped.faulted_if(is_broken, note, rule::ARRAY_SIZE).with_kind(Some(made)))
+        Ok(
+            shaped
+                .faulted_if(is_broken, note, rule::ARRAY_SIZE)
+                .with_kind(Some(made)),
+        )
     }
 
     // The same of this, if it has a type.
@@ -232,7 +240,11 @@ impl<'a> Checker<'a> {
         let is_broken = is_no_result(self.symbols.types.shape(value)) || self.has_struct(kinds);
         let f = self.symbols.types.function(value)?;
         let made = self.takes_all(kinds, f)?;
-        Ok(shaped.faulted_if(is_broken, note, rule::FUNCTION_TYPE).with_kind(Some(made)))
+        Ok(
+            shaped
+                .faulted_if(is_broken, note, rule::FUNCTION_TYPE)
+                .with_kind(Some(made)),
+        )
     }
 
     /// A function with these parameters and this as its result. Where a parameter has no type, nothing is judged.
@@ -264,9 +276,16 @@ impl<'a> Checker<'a> {
     fn depth(&mut self, kind: TypeId) -> Result<u64, Memory>
         ensures { IfOk result (λ n. (self.new, n) ≡ spec.depth_asked self.old kind) }
     {
-        self.symbols.depths.catch_up(&self.symbols.types, &self.symbols.structs)?;
+        self.symbols
+            .depths
+            .catch_up(&self.symbols.types, &self.symbols.structs)?;
         let shape = self.symbols.types.shape(kind);
-        Ok(self.symbols.depths.depth(&self.symbols.structs, shape).whole)
+        Ok(
+            self.symbols
+                .depths
+                .depth(&self.symbols.structs, shape)
+                .whole,
+        )
     }
 
     // What is too deep at this node (C20) has no type.
@@ -327,7 +346,9 @@ fn limited_by(note: Counted, is_deep: bool, shaped: Shaped) -> Shaped
     ensures { result ≡ spec.limited_by note is_deep shaped }
 {
     if is_deep {
-        shaped.faulted_if(true, note, rule::ARRAY_SIZE).with_kind(None)
+        shaped
+            .faulted_if(true, note, rule::ARRAY_SIZE)
+            .with_kind(None)
     } else {
         shaped
     }
