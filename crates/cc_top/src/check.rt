@@ -1,7 +1,7 @@
 // The steps of `check`, in their order.
 //
 // Each step that reads the shelf says what those of `list` say (the module `steps`).
-ghost use Rattle.std.specs.Prelude.{◌≡◌, ◌≢◌, ◌≤◌, ℕ, All, IfErr, IfOk, IfSome, length, string_bytes};
+ghost use Rattle.std.specs.Prelude.{◌≡◌, ◌≢◌, ◌≤◌, All, IfErr, IfOk, IfSome, length, string_bytes};
 ghost use Rattle.cc_project.specs.Outcome.{IsFault};
 ghost use Rattle.cc_project.specs.WellMade.{file_names_of};
 ghost use Rattle.cc_top.specs.Answer.{AfterFiles, OfCheck, OfChecked, counts_line};
@@ -14,7 +14,7 @@ ghost use Rattle.cc_top.specs.Tells.{IsNamedToCheck, Tells};
 use crate::reading::{read_files, text_of};
 use crate::refusal::{At, Refusal};
 use cc_base::{List, Text};
-use cc_front::{Built, FrontFault, Names, front};
+use cc_front::{FrontFault, Names, front};
 use cc_io::{ByteList, Shelf};
 use cc_project::{Project, ProjectFault, read_project};
 use std::alloc::{AllocError, Global};
@@ -118,14 +118,16 @@ fn of_front(alloc: Global, project: &Project, fault: FrontFault) -> Refusal
 }
 
 // The line of `check`.
-fn counts(alloc: Global, project: &Project, built: &Built) -> Result<String, AllocError>
-    ensures { IfOk result (λ text. (functions : ℕ) × (objects : ℕ)
-        × (string_bytes text ≡ counts_line project.now functions objects)) }
+fn counts(
+    alloc: Global,
+    project: &Project,
+    functions: u32,
+    objects: u32,
+) -> Result<String, AllocError>
+    ensures { IfOk result (λ text. string_bytes text ≡ counts_line project.now functions objects) }
 {
     let components = project.components.len();
     let files = project.files.len();
-    let functions = built.defined_functions();
-    let objects = built.static_objects();
     let tests = project.tests.len();
     format!(in alloc;
         "ok components {components} files {files} functions {functions} objects {objects} tests {tests}\n")
@@ -143,7 +145,11 @@ fn files_checked(
     ensures input { IfErr result IsOfInput }
 {
     match front(alloc, project, files) {
-        Ok(built) => Ok(counts(alloc, project, &built)?.into_bytes()),
+        Ok(built) => {
+            let functions = built.defined_functions();
+            let objects = built.static_objects();
+            Ok(counts(alloc, project, functions, objects)?.into_bytes())
+        }
         Err(fault) => Err(of_front(alloc, project, fault)),
     }
 }
@@ -165,9 +171,8 @@ fn project_checked<S: Shelf>(
     ensures names { IfSome (S.files shelf.old) (λ files. IfErr result
         (FaultNames (IsReached files (file_names_of project.now.files)))) }
 {
-    let mut files = List::new(alloc);
-    match read_files(alloc, shelf, project.files.as_slice(), &mut files) {
-        Ok(()) => files_checked(alloc, project, &files),
+    match read_files(alloc, shelf, project.files.as_slice(), List::new(alloc)) {
+        Ok(files) => files_checked(alloc, project, &files),
         Err(refusal) => Err(refusal),
     }
 }

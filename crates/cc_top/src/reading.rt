@@ -1,5 +1,5 @@
 // Files of the shelf, or why they can't be had.
-ghost use Rattle.std.specs.Prelude.{◌≡◌, ◌≢◌, ◌≤◌, ◌+◌, All, IfErr, IfOk, IfSome, OnOk, Some, length};
+ghost use Rattle.std.specs.Prelude.{◌≡◌, ◌≢◌, ◌≤◌, ◌+◌, ◌++◌, ◌∷◌, [], All, IfErr, IfOk, IfSome, Some, length};
 ghost use Rattle.std.specs.FinMap.{get};
 ghost use Rattle.cc_top.specs.Counts.{Caused, NoneFalls, counts_of};
 ghost use Rattle.cc_top.specs.Holds.{AddsHeld, IsShort};
@@ -8,7 +8,7 @@ ghost use Rattle.cc_project.specs.WellMade.{file_names_of};
 ghost use Rattle.cc_first.specs.Limit.{limit};
 
 use crate::refusal::Refusal;
-use cc_base::{List, Text};
+use cc_base::{List, Memory, Text};
 use cc_first::LIMIT;
 use cc_io::{ByteList, Found, Shelf, ShelfFault};
 use cc_project::ProjectFile;
@@ -55,33 +55,41 @@ pub fn read_file<S: Shelf>(alloc: Global, shelf: &mut S, name: &str) -> Result<B
 }
 
 
+// The list with these bytes last.
+fn added(mut list: List<ByteList>, bytes: ByteList) -> Result<List<ByteList>, Memory>
+    ensures { IfOk result (λ longer. longer ≡ list ++ bytes ∷ []) }
+{
+    list.push(bytes)?;
+    Ok(list)
+}
+
 /// Reads these files in their order, up to the first that can't be had, and adds their bytes to those that are read.
 pub fn read_files<S: Shelf>(
     alloc: Global,
     shelf: &mut S,
     files: &[ProjectFile],
-    read: &mut List<ByteList>,
-) -> Result<(), Refusal>
+    read: List<ByteList>,
+) -> Result<List<ByteList>, Refusal>
     ensures keeps { S.files shelf.new ≡ S.files shelf.old }
     ensures none_falls { NoneFalls (counts_of (S.faults shelf.old) (S.misses shelf.old) (S.longs shelf.old))
         (counts_of (S.faults shelf.new) (S.misses shelf.new) (S.longs shelf.new)) }
-    ensures count { OnOk result (length read.new ≡ length read.old + length files.now) }
-    ensures within { All IsShort read.old → OnOk result (All IsShort read.new) }
-    ensures held { IfSome (S.files shelf.old) (λ held. OnOk result
-        (AddsHeld held (file_names_of files.now) read.old read.new)) }
+    ensures count { IfOk result (λ list. length list ≡ length read + length files.now) }
+    ensures within { All IsShort read → IfOk result (All IsShort) }
+    ensures held { IfSome (S.files shelf.old) (λ held. IfOk result
+        (AddsHeld held (file_names_of files.now) read)) }
     ensures refused { IfSome (S.files shelf.old) (λ held. IfErr result (RefusesOne held (file_names_of files.now))) }
     ensures caused { IfErr result (Caused (counts_of (S.faults shelf.old) (S.misses shelf.old) (S.longs shelf.old))
         (counts_of (S.faults shelf.new) (S.misses shelf.new) (S.longs shelf.new))) }
     ensures kind { IfErr result (λ refusal. status_of refusal ≢ 2) }
 {
     let [file, rest @ ..] = files else {
-        return Ok(());
+        return Ok(read);
     };
     match read_file(alloc, shelf, file.name.as_str()) {
-        Ok(bytes) => {
-            read.push(bytes)?;
-            read_files(alloc, shelf, rest, read)
-        }
+        Ok(bytes) => match added(read, bytes) {
+            Ok(read) => read_files(alloc, shelf, rest, read),
+            Err(_) => Err(Refusal::Memory),
+        },
         Err(refusal) => Err(refusal),
     }
 }

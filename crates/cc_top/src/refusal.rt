@@ -1,5 +1,6 @@
 // Why the call gives up before it has a text.
 ghost use Rattle.std.specs.Prelude.{◌≡◌, IfOk, string_bytes};
+ghost use Rattle.cc_top.specs.Refusal as spec;
 
 use cc_base::{Memory, Spot, Text};
 use cc_front::Fault;
@@ -66,7 +67,9 @@ impl From<Memory> for Refusal {
 }
 
 // What is wrong, without its place.
-fn fault_text(alloc: Global, fault: Fault) -> Result<String, AllocError> {
+fn fault_text(alloc: Global, fault: Fault) -> Result<String, AllocError>
+    ensures { IfOk result (λ text. string_bytes text ≡ spec.fault_text fault) }
+{
     match fault {
         Fault::Lexical(rule) => format!(in alloc; "lexical L{rule}"),
         Fault::Syntax => String::from_str(alloc, "syntax"),
@@ -78,7 +81,9 @@ fn fault_text(alloc: Global, fault: Fault) -> Result<String, AllocError> {
 
 impl At {
     // The line that names the place and what is wrong.
-    fn line(&self, alloc: Global) -> Result<String, AllocError> {
+    fn line(&self, alloc: Global) -> Result<String, AllocError>
+        ensures { IfOk result (λ line. string_bytes line ≡ spec.at_line self.now) }
+    {
         let file = &self.file;
         let line = self.spot.line;
         let column = self.spot.column;
@@ -88,7 +93,9 @@ impl At {
 }
 
 // The line of a call of a test, which it counts from 1.
-fn test_line(alloc: Global, test: &Text, call: u32, rule: u8) -> Result<String, AllocError> {
+fn test_line(alloc: Global, test: &Text, call: u32, rule: u8) -> Result<String, AllocError>
+    ensures { IfOk result (λ line. string_bytes line ≡ spec.test_line test.now call rule) }
+{
     let call = call as u64 + 1;
     format!(in alloc; "test {test} call {call}: B{rule}\n")
 }

@@ -5,11 +5,11 @@
 // for is what the definitions allow (`told`), and a read fault names a file that they read (`names`).
 ghost use Rattle.std.specs.Prelude.{◌≡◌, ◌≢◌, ◌↔◌, ◌≤◌, ◌<◌, List, Err, IfErr, IfOk, IfSome, length, map, string_bytes};
 ghost use Rattle.cc_top.specs.Answer.{AfterRead, IsAnswer, OfCheck, OfFiles, OfProgram, OfProject};
-ghost use Rattle.cc_top.specs.Reads.{Reads};
+ghost use Rattle.cc_top.specs.Reads.{IsFileName, IsReadToCheck, IsReadToList, Reads};
 ghost use Rattle.cc_first.specs.Project.{IsProject, IsWell, Project as ProjectData};
 ghost use Rattle.cc_top.specs.Counts.{Caused, NoneFalls, counts_of};
 ghost use Rattle.cc_top.specs.Refusal.{FaultNames, IsOfForm, RefusesForm, status_of};
-ghost use Rattle.cc_top.specs.Tells.{IsFileName, IsNamed, IsReadToCheck, IsReadToList, Tells};
+ghost use Rattle.cc_top.specs.Tells.{IsNamed, Tells};
 ghost use Rattle.cc_first.specs.Unit.{HaveFreeNames, IsUnit, Part as PartData, program_of};
 ghost use Rattle.cc_first.specs.Views.{parts_view, project_view};
 ghost use Rattle.cc_first.specs.Limit.{limit};
