@@ -1,5 +1,5 @@
 -- Places that are added one by one.
-use Rattle.std.proofs.Common.{◌≡◌, ℕ, suc, ◌+◌, ◌-◌, ◌<◌, List, [], ◌∷◌, ◌++◌, refl, ap, sym, ◌∙◌, arith, replicate}
+use Rattle.std.proofs.Common.{◌≡◌, ℕ, suc, ◌+◌, ◌-◌, ◌<◌, List, [], ◌∷◌, ◌++◌, ap, sym, ◌∙◌, arith, replicate}
 use Rattle.std.proofs.lemmas.List.{append_assoc}
 
 pub one_more : {X : Type 0} (xs new ys : List X) (x : X) (i n : ℕ) → i < n → new ≡ xs ++ x ∷ []

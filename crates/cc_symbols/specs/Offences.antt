@@ -1,5 +1,5 @@
 -- Which of two offences comes first: by place, then by rule.
-use Rattle.std.specs.Prelude.{Bool, ◌&&◌, ◌||◌, nat_eq, nat_lt, Option, Some, None, if◌then◌else◌}
+use Rattle.std.specs.Prelude.{Bool, nat_eq, nat_lt, Option, Some, None, if◌then◌else◌}
 use Rattle.cc_symbols.specs.declared.offence.Offence.{Offence}
 
 abbrev pub is_before : Offence → Offence → Bool

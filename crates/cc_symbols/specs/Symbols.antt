@@ -1,5 +1,5 @@
 -- What is known of declarations, and how it grows.
-use Rattle.std.specs.Prelude.{ℕ, Bool, true, false, List, [], ◌∷◌, ◌++◌, length, Option, Some, None, slice_get}
+use Rattle.std.specs.Prelude.{ℕ, true, false, List, [], ◌∷◌, ◌++◌, length, Option, Some, None, slice_get}
 use Rattle.cc_arith.specs.declared.kind.IntKind.TheVariants.{Char}
 use Rattle.cc_tree.specs.declared.ids.StructId.{StructId}
 use Rattle.cc_types.specs.declared.member_lists.MemberLists.{MemberLists}

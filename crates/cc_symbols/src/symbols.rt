@@ -128,7 +128,8 @@ impl Symbols {
         id: StructId,
         members: &[Member],
     ) -> Result<StructId, Memory>
-        ensures { IfOk result (λ first. (self.new, first) ≡ spec.same_unnamed self.old id members.now) }
+        ensures { IfOk result (λ first. (self.new, first)
+            ≡ spec.same_unnamed self.old id members.now) }
     {
         let list = self.lists.number(alloc, members)?;
         match self.unnamed.get(list) {

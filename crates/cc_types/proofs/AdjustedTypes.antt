@@ -1,5 +1,5 @@
 -- What adjusting the type of a parameter makes.
-use Rattle.std.proofs.Common.{◌≡◌, refl, ap, sym, ◌∙◌, subst, ◌<◌, false, List, [], length, arith}
+use Rattle.std.proofs.Common.{◌≡◌, ap, sym, ◌∙◌, subst, ◌<◌, false, List, [], length, arith}
 use Rattle.std.proofs.lemmas.Bool.{lt-ltb}
 use Rattle.cc_types.specs.CTypes.{CTypeTree, pointer_to, adjusted_from}
 use Rattle.cc_types.specs.declared.shape.Shape.{Shape}

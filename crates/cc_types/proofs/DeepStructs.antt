@@ -217,11 +217,19 @@ module _ (ss : List Shape) (es : List StructEntry) (ds : List DepthItem) (id : S
       by true q = refl
       by false q = cc
 
-  free_types : IsFree ts es id → (t : TypeId) → ((struct_depth (entry_of filled id)).inside ≡ (struct_depth (entry_of es id)).inside) ⊎ (mentions id (type_at ts t) ≡ false)
-  free_types (inl e) t = inl (tagged_inside e)
+  same_inside : (members_depth ss es ds ms).inside ≡ (entry_of es id).depth.inside → (struct_depth (entry_of filled id)).inside ≡ (struct_depth (entry_of es id)).inside
+  same_inside e = each_filled (λ x y. (struct_depth x).inside ≡ (struct_depth y).inside) (λ x. refl) (by (entry_of es id).is_tagged) id
+    where
+      by : (b : Bool) → (if b then 1 else (members_depth ss es ds ms).inside) ≡ (if b then 1 else (entry_of es id).depth.inside)
+      by true = refl
+      by false = e
+
+  free_types : IsFree ss es ds id ms → (t : TypeId) → ((struct_depth (entry_of filled id)).inside ≡ (struct_depth (entry_of es id)).inside) ⊎ (mentions id (type_at ts t) ≡ false)
+  free_types (inl (inl e)) t = inl (tagged_inside e)
+  free_types (inl (inr e)) t = inl (same_inside e)
   free_types (inr h) t = inr (h t)
 
-  pub completed_listed : IsFree ts es id → AreListed ss es ds → AreListed ss (completed ss es ds id ms) ds
+  pub completed_listed : IsFree ss es ds id ms → AreListed ss es ds → AreListed ss (completed ss es ds id ms) ds
   completed_listed free all = by (not (is_complete es id) && room.is_complete)
     where
       by : (b : Bool) → AreListed ss (if b then filled else es) ds
@@ -235,7 +243,7 @@ module _ (ss : List Shape) (es : List StructEntry) (ds : List DepthItem) (id : S
         let one : depth_in es ds (shape_of ss m.kind) ≡ depth_of es (type_at ts m.kind) = depth_is ss es ds all counted (shape_of ss m.kind) ∙ ap (depth_of es) (type_is ss table m.kind) in
         ap (λ x. depth_from ss es ds (deepest d x) ns) one ∙ from_is (deepest d (depth_of es (type_at ts m.kind))) ns
 
-    filled_deep : IsFree ts es id → is_complete es id ≡ false → room.is_complete ≡ true → AreMeasured ts es → AreDeep ts es → AreDeep ts filled
+    filled_deep : IsFree ss es ds id ms → is_complete es id ≡ false → room.is_complete ≡ true → AreMeasured ts es → AreDeep ts es → AreDeep ts filled
     filled_deep free fresh whole measured deep = record { kept = λ other e. by other e (nat_eq other.0 id.0) refl }
       where
         agree : (other : StructId) → is_complete es other ≡ true → entry_of filled other ≡ entry_of es other
@@ -252,7 +260,7 @@ module _ (ss : List Shape) (es : List StructEntry) (ds : List DepthItem) (id : S
             let was : entry_of filled other ≡ entry_of es other = get_or-set_other es id.0 other.0 full (declared_entry false 0) (eqb-false _ _ q) in
             deep_stays es filled id apart_inside agree ts (free_types free) measured deep other (ap (λ x. x.measure.is_complete) (sym was) ∙ e)
 
-    pub completed_deep : IsFree ts es id → AreMeasured ts es → AreDeep ts es → AreDeep ts (completed ss es ds id ms)
+    pub completed_deep : IsFree ss es ds id ms → AreMeasured ts es → AreDeep ts es → AreDeep ts (completed ss es ds id ms)
     completed_deep free measured deep = by (is_complete es id) room.is_complete refl refl
       where
         by : (a b : Bool) → is_complete es id ≡ a → room.is_complete ≡ b → AreDeep ts (if not a && b then filled else es)

@@ -1,5 +1,5 @@
 -- Numbers of lists of members.
-use Rattle.std.proofs.Common.{◌≡◌, refl, ap, sym, ◌∙◌, subst, ℕ, ◌+◌, Bool, true, List, [], ◌∷◌, ◌++◌, reverse, arith, rules}
+use Rattle.std.proofs.Common.{◌≡◌, refl, ap, sym, ◌∙◌, subst, ℕ, ◌+◌, true, List, [], ◌∷◌, ◌++◌, reverse, arith, rules}
 use Rattle.std.specs.Prelude.{Some, None, slice_get, ◌↔◌}
 use Rattle.std.specs.Str.{bytes_eq}
 use Rattle.std.specs.List.{position_or_len}
@@ -9,7 +9,7 @@ use Rattle.cc_types.specs.declared.links.Link.{Link}
 use Rattle.cc_types.specs.declared.member_lists.MemberLists.{MemberLists}
 use Rattle.cc_types.specs.declared.structs.Member.{Member}
 use Rattle.cc_types.specs.declared.shape.TypeId.{TypeId}
-use Rattle.cc_types.specs.MemberLists.{same_link, link_to, no_lists, longer, extended, numbered, IsLinked, IsNumberedBack, IsNumbered, IsOnce, AreOnce}
+use Rattle.cc_types.specs.MemberLists.{same_link, link_to, no_lists, longer, extended, numbered, IsNumberedBack, IsNumbered, AreOnce}
 use Rattle.cc_types.specs.Laws.{Numbers}
 use Rattle.cc_types.proofs.InsertedOnce.{once_inserted, stays_inserted, placed}
 

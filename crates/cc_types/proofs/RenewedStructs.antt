@@ -10,11 +10,11 @@ use Rattle.cc_types.specs.declared.depth.Depth.{Depth}
 use Rattle.cc_types.specs.declared.depth.DepthItem.{DepthItem}
 use Rattle.cc_types.specs.declared.shape.Shape.{Shape}
 use Rattle.cc_types.specs.CTypes.{CTypeTree, has_const}
-use Rattle.cc_types.specs.Depths.{flat, sunk, deepest, depth_of, deepest_from, struct_depth, struct_deep, members_depth}
+use Rattle.cc_types.specs.Depths.{flat, sunk, deepest, depth_of, deepest_from, struct_depth, members_depth}
 use Rattle.cc_types.specs.Shapes.{type_at, types_of, Extends}
 use Rattle.cc_types.specs.Measures.{entry_of, declared_entry, measure_of, joined, empty, members_from, members_measured}
 use Rattle.cc_types.specs.Structs.{is_complete, added, completed, renewed, entry_renewed, depth_renewed, with_members}
-use Rattle.cc_types.specs.Laws.{AreMeasured, AreDeep, AreBare, AreCounted, Begins}
+use Rattle.cc_types.specs.Laws.{AreMeasured, AreDeep, AreBare, Begins}
 use Rattle.cc_types.proofs.GrowingTables.{both}
 use Rattle.cc_types.proofs.MeasuredStructs.{starts, type_stays, complete_within}
 use Rattle.cc_types.proofs.DeepStructs.{each_more}

@@ -13,7 +13,7 @@ use Rattle.cc_types.specs.declared.depth.DepthItem.{DepthItem}
 use Rattle.cc_types.specs.declared.member_lists.MemberLists.{MemberLists}
 use Rattle.cc_types.specs.MemberLists.{no_lists, numbered, IsNumbered, AreOnce}
 use Rattle.cc_types.specs.Measures.{entry_of, members_measured, capped}
-use Rattle.cc_types.specs.Depths.{depth_of, depth_in, item_at, caught_up, mentions, struct_depth, struct_deep}
+use Rattle.cc_types.specs.Depths.{depth_of, depth_in, item_at, caught_up, mentions, struct_depth, struct_deep, members_depth}
 use Rattle.cc_types.specs.Asked.{is_array}
 use Rattle.cc_types.specs.Structs.{is_complete, added, renewed, completed}
 use Rattle.cc_types.specs.Interning.{interned, array_made, function_made, taking_made, const_made, adjusted}
@@ -122,9 +122,11 @@ CatchingUpLists = (ss : List Shape) (es : List StructEntry) (ds : List DepthItem
 abbrev pub NothingIsListed : Type 0
 NothingIsListed = (es : List StructEntry) → AreListed [] es []
 
--- a struct has a tag, or stands in no type of the table: so completing it changes no depth inside pointers and functions
-abbrev pub IsFree : List CTypeTree → List StructEntry → StructId → Type 0
-IsFree ts es id = ((entry_of es id).is_tagged ≡ true) ⊎ ((t : TypeId) → mentions id (type_at ts t) ≡ false)
+-- Completing a struct changes no depth inside pointers and functions: it has a tag, or is as deep inside as it was in an
+-- earlier file, or stands in no type of the table.
+abbrev pub IsFree : List Shape → List StructEntry → List DepthItem → StructId → List Member → Type 0
+IsFree ss es ds id ms = (((entry_of es id).is_tagged ≡ true) ⊎ ((members_depth ss es ds ms).inside ≡ (entry_of es id).depth.inside))
+    ⊎ ((t : TypeId) → mentions id (type_at (types_of ss) t) ≡ false)
 
 abbrev pub CountedThroughout : Type 0
 CountedThroughout = AreCounted [] × ((es : List StructEntry) (is_tagged : Bool) (token : ℕ) → AreCounted es → AreCounted (added es is_tagged token).0)
@@ -135,7 +137,7 @@ abbrev pub AddingKeepsLists : Type 0
 AddingKeepsLists = (ss : List Shape) (es : List StructEntry) (ds : List DepthItem) (is_tagged : Bool) (token : ℕ) → AreListed ss es ds → AreListed ss (added es is_tagged token).0 ds
 
 abbrev pub CompletingKeepsLists : Type 0
-CompletingKeepsLists = (ss : List Shape) (es : List StructEntry) (ds : List DepthItem) (id : StructId) (ms : List Member) → IsFree (types_of ss) es id
+CompletingKeepsLists = (ss : List Shape) (es : List StructEntry) (ds : List DepthItem) (id : StructId) (ms : List Member) → IsFree ss es ds id ms
     → AreListed ss es ds → AreListed ss (completed ss es ds id ms) ds
 
 -- the depth that each complete struct keeps is 1 more than that of its deepest member
@@ -143,7 +145,7 @@ pub record AreDeep (ts : List CTypeTree) (es : List StructEntry) : Type 0 where
   pub kept : (id : StructId) → is_complete es id ≡ true → (entry_of es id).depth ≡ struct_deep ts es (entry_of es id).members
 
 abbrev pub CompletingKeepsDepths : Type 0
-CompletingKeepsDepths = (ss : List Shape) (es : List StructEntry) (ds : List DepthItem) (id : StructId) (ms : List Member) → IsFree (types_of ss) es id
+CompletingKeepsDepths = (ss : List Shape) (es : List StructEntry) (ds : List DepthItem) (id : StructId) (ms : List Member) → IsFree ss es ds id ms
     → IsTable ss → AreCounted es → AreListed ss es ds → AreMeasured (types_of ss) es → AreDeep (types_of ss) es → AreDeep (types_of ss) (completed ss es ds id ms)
 
 abbrev pub AddingKeepsDepths : Type 0

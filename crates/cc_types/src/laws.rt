@@ -42,8 +42,8 @@ pub fn depth_laws()
 
 /// What `Depths` lists stays right where structs are added or completed, and each complete struct goes on to keep 1 more
 /// than the depth of its deepest member, also where the table of types grows. A struct without a tag has to be complete
-/// before a type of the table is made of it. At the beginning of another file no struct is complete, and each is as deep
-/// inside pointers and function types as before.
+/// before a type of the table is made of it, or to be as deep inside pointers as it was in an earlier file. At the
+/// beginning of another file no struct is complete, and each is as deep inside pointers and function types as before.
 pub fn struct_depth_laws()
     ensures counted { CountedThroughout }
     ensures adding_lists { AddingKeepsLists }

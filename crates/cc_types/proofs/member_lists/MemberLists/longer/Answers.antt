@@ -1,4 +1,4 @@
-use Rattle.std.proofs.Common.{◌≡◌, ap, ◌∙◌}
+use Rattle.std.proofs.Common.{ap, ◌∙◌}
 use Rattle.cc_types.specs.MemberLists.{text_numbered, with_names}
 use Rattle.cc_types.proofs.member_lists.MemberLists.longer.Goals as goal
 

@@ -1,5 +1,5 @@
-use Rattle.std.proofs.Common.{◌≡◌, ap, sym, ◌∙◌, ◌+◌, drop}
-use Rattle.cc_types.specs.MemberLists.{extended, longer, numbered}
+use Rattle.std.proofs.Common.{ap, sym, ◌∙◌, ◌+◌, drop}
+use Rattle.cc_types.specs.MemberLists.{extended}
 use Rattle.cc_types.proofs.ReadLists.{next_of}
 use Rattle.cc_types.proofs.member_lists.MemberLists.number.Goals as goal
 
