@@ -38,10 +38,13 @@ kind_of_right o.Shl j k = promoted k
 kind_of_right o.Shr j k = promoted k
 kind_of_right op j k = common_of j k
 
+abbrev pub right_operand : IntOp → IntKind → IntKind → ℤ → ℤ
+right_operand op j k w = converted (kind_of_right op j k) w
+
 -- `v op w`, where v and w have kinds j and k
 abbrev pub int_combined : IntOp → IntKind → ℤ → IntKind → ℤ → Option ℤ
 int_combined op j v k w =
-    defined (binary_of op (kind_of_operation op j k) (converted (kind_of_operation op j k) v) (converted (kind_of_right op j k) w))
+    defined (binary_of op (kind_of_operation op j k) (converted (kind_of_operation op j k) v) (right_operand op j k w))
 
 abbrev pub both : IntOp → Option IntKind → Option ℤ → Option IntKind → Option ℤ → Option ℤ
 both op (Some j) (Some v) (Some k) (Some w) = int_combined op j v k w

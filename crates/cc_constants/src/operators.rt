@@ -1,8 +1,10 @@
 // What operators give values, if they have them.
 ghost use Rattle.std.specs.Prelude.{◌≡◌};
+ghost use Rattle.cc_arith.specs.Promotions.{IsPromoted};
+ghost use Rattle.cc_arith.specs.Operators.{IsRightOperand};
 ghost use Rattle.cc_constants.specs.Operators as spec;
 
-use cc_arith::{IntKind, IntOp, IntUnary, binary, common, convert, promote, unary};
+use cc_arith::{ArithUndef, IntKind, IntOp, IntUnary, binary, common, convert, promote, unary};
 use cc_tree::{BinaryOp, UnaryOp};
 
 // `op v`, where v has kind k.
@@ -19,7 +21,17 @@ fn int_prefixed(op: IntUnary, k: IntKind, v: i128) -> Option<i128>
     ensures { result ≡ spec.int_prefixed op k v }
 {
     let kind = promote(k);
-    unary(op, kind, convert(kind, v)).ok()
+    defined(unary(op, kind, convert(kind, v)))
+}
+
+// What an operator gives, where that is defined.
+fn defined(answer: Result<i128, ArithUndef>) -> Option<i128>
+    ensures { result ≡ spec.defined answer }
+{
+    match answer {
+        Ok(v) => Some(v),
+        Err(_) => None,
+    }
 }
 
 // `v op w`, where v and w have kinds j and k.
@@ -58,13 +70,14 @@ fn int_combined(op: IntOp, j: IntKind, v: i128, k: IntKind, w: i128) -> Option<i
     ensures { result ≡ spec.int_combined op j v k w }
 {
     let kind = kind_of_operation(op, j, k);
-    let right = convert(kind_of_right(op, j, k), w);
-    binary(op, kind, convert(kind, v), right).ok()
+    let right = right_operand(op, j, k, w);
+    defined(binary(op, kind, convert(kind, v), right))
 }
 
 // The kind in which an operator works on two integers.
 fn kind_of_operation(op: IntOp, j: IntKind, k: IntKind) -> IntKind
-    ensures { result ≡ spec.kind_of_operation op j k }
+    ensures value { result ≡ spec.kind_of_operation op j k }
+    ensures promoted { IsPromoted result }
 {
     match op {
         IntOp::Shl | IntOp::Shr => promote(j),
@@ -72,7 +85,15 @@ fn kind_of_operation(op: IntOp, j: IntKind, k: IntKind) -> IntKind
     }
 }
 
-// The kind of its right operand, promoted or converted: the count of a shift has a kind of its own.
+// The value of its right operand, promoted or converted: the count of a shift has a kind of its own.
+fn right_operand(op: IntOp, j: IntKind, k: IntKind, w: i128) -> i128
+    ensures value { result ≡ spec.right_operand op j k w }
+    ensures right { IsRightOperand op (spec.kind_of_operation op j k) result }
+{
+    convert(kind_of_right(op, j, k), w)
+}
+
+// The kind in which an operator takes its right operand.
 fn kind_of_right(op: IntOp, j: IntKind, k: IntKind) -> IntKind
     ensures { result ≡ spec.kind_of_right op j k }
 {

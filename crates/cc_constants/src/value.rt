@@ -17,7 +17,7 @@ use cc_typing::kind_at;
 const POINTER_BYTES: i128 = 8;
 
 /// The value of an integer constant expression that is judged: one that has a type, is such an expression by its form
-/// (C17 6.6), and in which what is evaluated is defined. It is a value of the kind that it has in `found.types`.
+/// (C17 6.6), and in which what is evaluated is defined. Operators work in the kinds of `found.types`. Takes no memory.
 pub fn constant(symbols: &Symbols, found: &Findings, e: &Expr<Counted>) -> Option<i128>
     ensures { result ≡ spec.constant symbols.now found.now (view e.now) }
 {

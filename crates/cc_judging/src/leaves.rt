@@ -5,11 +5,8 @@ ghost use Rattle.cc_judging.specs.Judging.{typed_integer};
 
 use crate::judged::{self, Judged};
 use cc_arith::IntKind;
-use cc_symbols::{Declared, Form};
+use cc_symbols::{CHAR, Declared, Form};
 use cc_types::{ExprType, Shape, TypeId, TypeTable};
-
-// `char`, the first type of the table.
-const CHAR: TypeId = TypeId(0);
 
 /// A name that names this declaration (C17 6.5.1, paragraph 2). Without one it is untyped: it broke C35.
 pub fn name(table: &TypeTable, declared: Option<Declared>) -> Judged

@@ -1,11 +1,11 @@
 -- What is known of a node, by its number.
-use Rattle.std.specs.Prelude.{ℕ, Bool, true, false, List, Option, Some, None, slice_get}
+use Rattle.std.specs.Prelude.{ℕ, Bool, true, false, not, ◌&&◌, List, Option, Some, None, slice_get}
 use Rattle.cc_symbols.specs.declared.declared.Declared.{Declared}
 use Rattle.cc_symbols.specs.declared.declared.Form.{Form}
 use Rattle.cc_symbols.specs.declared.declared.Form.TheVariants as form
 use Rattle.cc_symbols.specs.declared.symbols.Symbols.{Symbols}
 use Rattle.cc_types.specs.declared.shape.Shape.{Shape}
-use Rattle.cc_types.specs.declared.shape.Shape.TheVariants as s
+use Rattle.cc_types.specs.declared.shape.Shape.TheVariants as shape
 use Rattle.cc_types.specs.declared.shape.TypeId.{TypeId}
 use Rattle.cc_types.specs.declared.expr_type.ExprType.{ExprType}
 use Rattle.cc_types.specs.declared.expr_type.ExprType.TheVariants.{Plain}
@@ -47,11 +47,11 @@ abbrev pub names_object : Symbols → ℕ → Bool
 names_object s n = declares_object (declaration_at s n)
 
 abbrev pub is_bare_void : Shape → Bool
-is_bare_void (s.Void false) = true
+is_bare_void (shape.Void k) = not k
 is_bare_void a = false
 
 abbrev pub points_to_void : Symbols → Shape → Bool
-points_to_void s (s.Pointer false id) = is_bare_void (shape_of s.types id)
+points_to_void s (shape.Pointer k id) = not k && is_bare_void (shape_of s.types id)
 points_to_void s a = false
 
 abbrev pub points_to_void_if_some : Symbols → Option TypeId → Bool

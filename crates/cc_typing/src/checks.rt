@@ -1,5 +1,5 @@
 // Rules on the value of an expression that stands by itself.
-ghost use Rattle.std.specs.Prelude.{◌≡◌};
+ghost use Rattle.std.specs.Prelude.{◌≡◌, Some};
 ghost use Rattle.cc_tree.specs.Views.{view};
 ghost use Rattle.cc_typing.specs.Checks as spec;
 
@@ -21,7 +21,7 @@ pub fn check_fit(
     e: &Expr<Counted>,
     t: Option<ExprType>,
 )
-    ensures { found.new ≡ spec.fit_checked symbols.now (Option.Some target) (view e.now) t found.old }
+    ensures { found.new ≡ spec.fit_checked symbols.now (Some target) (view e.now) t found.old }
 {
     check_argument(symbols, found, Some(target), e, t);
 }

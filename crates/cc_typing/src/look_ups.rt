@@ -59,7 +59,16 @@ fn points_to_void(symbols: &Symbols, a: Shape) -> bool
     ensures { result ≡ spec.points_to_void symbols.now a }
 {
     match a {
-        Shape::Pointer(false, id) => matches!(symbols.types.shape(id), Shape::Void(false)),
+        Shape::Pointer(is_const, id) => !is_const && is_bare_void(symbols.types.shape(id)),
+        _ => false,
+    }
+}
+
+fn is_bare_void(a: Shape) -> bool
+    ensures { result ≡ spec.is_bare_void a }
+{
+    match a {
+        Shape::Void(is_const) => !is_const,
         _ => false,
     }
 }
