@@ -1,5 +1,5 @@
 -- How names are declared.
-use Rattle.std.specs.Prelude.{ℕ, Bool, true, false, ◌&&◌, List, [], ◌∷◌, Option, Some, None, slice_get}
+use Rattle.std.specs.Prelude.{ℕ, Bool, ◌&&◌, List, ◌∷◌, Option, Some, None, slice_get}
 use Rattle.cc_scopes.specs.Names.{is_here}
 use Rattle.cc_symbols.specs.Symbols as symbols
 use Rattle.cc_symbols.specs.declared.declared.Declared.{Declared}

@@ -1,5 +1,5 @@
 -- Enumeration constants.
-use Rattle.std.specs.Prelude.{ℕ, ℤ, pos, negsuc, ◌+ℤ◌, int_le, Bool, true, false, not, ◌&&◌, List, Option, Some, None, if◌then◌else◌}
+use Rattle.std.specs.Prelude.{ℕ, ℤ, pos, negsuc, ◌+ℤ◌, int_le, Bool, true, false, not, ◌&&◌, List, Some, if◌then◌else◌}
 use Rattle.cc_arith.specs.declared.kind.IntKind.TheVariants.{Int}
 use Rattle.cc_symbols.specs.declared.declared.Declared.{Declared}
 use Rattle.cc_symbols.specs.declared.declared.Form.TheVariants.{Constant}

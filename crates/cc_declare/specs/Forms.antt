@@ -1,6 +1,5 @@
 -- The types that the forms of a declarator make, and the rules on them.
-use Rattle.std.specs.Prelude.{ℕ, ℤ, pos, int_le, int_lt, nat_lt, Bool, true, false, not, ◌||◌, ◌&&◌, Option, Some, None, List, [], ◌∷◌, reverse, if◌then◌else◌}
-use Rattle.cc_symbols.specs.declared.offence.Offence.{Offence}
+use Rattle.std.specs.Prelude.{ℕ, ℤ, pos, nat_lt, Bool, true, false, not, ◌||◌, ◌&&◌, Option, Some, None, List, [], ◌∷◌, reverse, if◌then◌else◌}
 use Rattle.cc_tree_notes.specs.declared.note.Counted.{Counted}
 use Rattle.cc_types.specs.Depths.{caught_up, depth_in}
 use Rattle.cc_types.specs.Interning as interning
@@ -15,7 +14,7 @@ use Rattle.cc_declare.specs.declared.enumerators.ConstantValue.TheVariants as v
 use Rattle.cc_declare.specs.declared.shaped.Formed.{Formed}
 use Rattle.cc_declare.specs.declared.shaped.Shaped.{Shaped}
 use Rattle.cc_declare.specs.Rules as rule
-use Rattle.cc_declare.specs.Shapes.{is_void, is_no_result, is_no_object, lacks_length, has_too_many_cells, is_void_type, is_struct_type}
+use Rattle.cc_declare.specs.Shapes.{is_void, is_no_result, is_no_object, lacks_length, has_too_many_cells, is_void_type, is_struct_type, is_void_pointer}
 use Rattle.cc_declare.specs.Shaping.{with_kind, unjudged, excused_if, faulted_if, judged_fault}
 use Rattle.cc_declare.specs.State.{with_symbols, with_types, with_kind_at, settled}
 
@@ -50,9 +49,10 @@ pointer_at s n k d (Some t) =
 abbrev pub pointer_made : Checker → Counted → Bool → Shaped → Checker × Shaped
 pointer_made s n k d = pointer_at s n k d d.kind
 
--- what is wrong with these as elements
-abbrev pub elements_judged : Checker → Counted → Shape → Shaped → Shaped
-elements_judged s n a d = faulted_if (faulted_if d (is_no_object s a) n rule.object_type) (lacks_length a) n rule.array_size
+-- the same, where these are to be the elements of an array
+abbrev pub of_elements : Checker → Counted → Shape → Shaped → Shaped
+of_elements s n a d =
+    faulted_if (faulted_if d (is_no_object s a) n rule.object_type) (lacks_length a || has_too_many_cells s a) n rule.array_size
 
 abbrev pub array_as : Checker → Counted → ConstantValue → Bool → Shaped → TypeId → Checker × Shaped
 array_as s n c may_lack d t =
@@ -63,7 +63,7 @@ array_in s n c may_lack d p = array_as (with_types s p.0) n c may_lack d p.1
 
 abbrev pub array_of_made : Checker → Counted → ConstantValue → Bool → Shaped → TypeId → Checker × Shaped
 array_of_made s n c may_lack d t =
-    array_in s n c may_lack (elements_judged s n (shape_of s.symbols.types t) d) (interning.array_made s.symbols.types t (length_of c))
+    array_in s n c may_lack (of_elements s n (shape_of s.symbols.types t) d) (interning.array_made s.symbols.types t (length_of c))
 
 abbrev pub array_at : Checker → Counted → ConstantValue → Bool → Shaped → Option TypeId → Checker × Shaped
 array_at s n c may_lack d (Some t) = array_of_made s n c may_lack d t
@@ -74,7 +74,7 @@ abbrev pub array_with : Checker → Counted → ConstantValue → Bool → Shape
 array_with s n c may_lack d = array_at s n c may_lack d d.kind
 
 abbrev pub array_without_at : Checker → Counted → Shaped → Option TypeId → Shaped
-array_without_at s n d (Some t) = with_kind (faulted_if d (is_no_object s (shape_of s.symbols.types t)) n rule.object_type) None
+array_without_at s n d (Some t) = with_kind (of_elements s n (shape_of s.symbols.types t) d) None
 array_without_at s n d None = d
 
 -- an array of this whose length is no constant: it has no type
@@ -132,7 +132,7 @@ function_of_made s n ts d t =
     shaped_by (faulted_if d is_broken n rule.function_type) (all_taken ts (typed_by s (interning.function_made s.symbols.types t)))
 
 abbrev pub function_at : Checker → Counted → List (Option TypeId) → Shaped → Option TypeId → Checker × Shaped
-function_at s n ts d None = (s, d)
+function_at s n ts d None = (s, faulted_if d (has_struct s ts) n rule.function_type)
 function_at s n ts d (Some t) = function_of_made s n (reverse ts) d t
 
 -- A function with these parameters and this as its result. Where a parameter has no type, nothing is judged.
@@ -180,5 +180,7 @@ formed s n d = formed_as (limited s n d)
 abbrev pub type_name_as : Counted → Checker × Formed → Checker
 type_name_as n p = with_kind_at p.0 n.number p.1.kind
 
+-- the type of a type name; `(void *)` is excused where it stands before a zero
 abbrev pub type_name_made : Checker → Counted → Option Counted → Bool → Shaped → Checker
-type_name_made s n outermost is_excused d = type_name_as n (formed s outermost (excused_if d is_excused))
+type_name_made s n outermost is_before_zero d =
+    type_name_as n (formed s outermost (excused_if d (is_before_zero && is_void_pointer s d.kind)))

@@ -1,5 +1,5 @@
 -- Members of structs (C17 6.7.2.1).
-use Rattle.std.specs.Prelude.{ℕ, Bool, true, false, ◌&&◌, Option, Some, None, List, [], ◌∷◌, ◌++◌, if◌then◌else◌}
+use Rattle.std.specs.Prelude.{ℕ, true, false, ◌&&◌, Option, Some, None, List, [], ◌∷◌, ◌++◌, if◌then◌else◌}
 use Rattle.cc_scopes.specs.Names.{is_here, names_outside}
 use Rattle.cc_symbols.specs.Symbols as symbols
 use Rattle.cc_symbols.specs.declared.symbols.Symbols.{Symbols}

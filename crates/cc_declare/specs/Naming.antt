@@ -1,8 +1,6 @@
 -- The name that a declarator declares, and the parts that stand next to it.
 use Rattle.std.specs.Prelude.{ℕ, Bool, true, false, not, ◌||◌, Option, Some, None, List, if◌then◌else◌}
 use Rattle.cc_tree.specs.Trees.{DeclTree, declared, nameless, pointer, array, function, grouped, TypeTree, type_name, TypeTrees, no_types, more_types}
-use Rattle.cc_tree.specs.Views.{types_of}
-use Rattle.cc_tree.specs.declared.expr.TypeName.{TypeName}
 use Rattle.cc_tree_notes.specs.declared.note.Counted.{Counted}
 use Rattle.cc_declare.specs.declared.names.Named.{Named}
 

@@ -1,5 +1,5 @@
 -- What rules on declarations ask of types.
-use Rattle.std.specs.Prelude.{ℕ, Bool, true, false, not, ◌||◌, nat_lt, Option, Some, None}
+use Rattle.std.specs.Prelude.{Bool, true, false, not, ◌&&◌, ◌||◌, nat_lt, Option, Some, None}
 use Rattle.cc_types.specs.Interning.{shape_of, is_function}
 use Rattle.cc_types.specs.Measures.{measure_of}
 use Rattle.cc_types.specs.Shapes.{built, types_of}
@@ -12,6 +12,10 @@ use Rattle.cc_declare.specs.declared.checker.Checker.{Checker}
 abbrev pub is_void : Shape → Bool
 is_void (h.Void k) = true
 is_void a = false
+
+abbrev pub is_plain_void : Shape → Bool
+is_plain_void (h.Void k) = not k
+is_plain_void a = false
 
 abbrev pub is_array : Shape → Bool
 is_array (h.Array k t n) = true
@@ -44,6 +48,15 @@ has_too_many_cells s a = nat_lt 1048576 (measure_of s.symbols.structs (built (ty
 abbrev pub is_void_type : Checker → Option TypeId → Bool
 is_void_type s None = false
 is_void_type s (Some t) = is_void (shape_of s.symbols.types t)
+
+abbrev pub points_to_void : Checker → Shape → Bool
+points_to_void s (h.Pointer k t) = not k && is_plain_void (shape_of s.symbols.types t)
+points_to_void s a = false
+
+-- a type is `void *`, with no const
+abbrev pub is_void_pointer : Checker → Option TypeId → Bool
+is_void_pointer s None = false
+is_void_pointer s (Some t) = points_to_void s (shape_of s.symbols.types t)
 
 abbrev pub is_struct_type : Checker → Option TypeId → Bool
 is_struct_type s None = false

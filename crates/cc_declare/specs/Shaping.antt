@@ -1,5 +1,5 @@
 -- What a declarator makes of a type, and what its forms break.
-use Rattle.std.specs.Prelude.{ℕ, Bool, true, false, Option, Some, None, if◌then◌else◌}
+use Rattle.std.specs.Prelude.{ℕ, Bool, false, Option, Some, None, if◌then◌else◌}
 use Rattle.cc_symbols.specs.Offences.{lesser}
 use Rattle.cc_symbols.specs.declared.offence.Offence.{Offence}
 use Rattle.cc_tree_notes.specs.declared.note.Counted.{Counted}

@@ -1,5 +1,5 @@
 -- Tags (C17 6.7.2.3): one name space in a file.
-use Rattle.std.specs.Prelude.{ℕ, Bool, true, false, ◌&&◌, ◌||◌, Option, Some, None, List, [], ◌∷◌, ◌++◌, length, slice_get, slice_set}
+use Rattle.std.specs.Prelude.{ℕ, Bool, ◌&&◌, ◌||◌, Option, Some, None, List, [], ◌∷◌, ◌++◌, length, slice_get, slice_set}
 use Rattle.cc_scopes.specs.Names.{declaration_of}
 use Rattle.cc_symbols.specs.Symbols as symbols
 use Rattle.cc_symbols.specs.declared.symbols.Symbols.{Symbols}

@@ -6,7 +6,6 @@ use Rattle.cc_tree.specs.declared.operator.SpecWord.{SpecWord}
 use Rattle.cc_tree.specs.declared.operator.SpecWord.TheVariants as w
 use Rattle.cc_types.specs.declared.shape.Shape.{Shape}
 use Rattle.cc_types.specs.declared.shape.Shape.TheVariants as h
-use Rattle.cc_types.specs.declared.shape.TypeId.{TypeId}
 use Rattle.cc_declare.specs.declared.type_words.Core.{Core}
 use Rattle.cc_declare.specs.declared.type_words.Core.TheVariants as c
 use Rattle.cc_declare.specs.declared.type_words.Sign.{Sign}

@@ -5,7 +5,9 @@ ghost use Rattle.cc_declare.specs.State as spec;
 use crate::tags::Tag;
 use cc_base::{List, Memory};
 use cc_scopes::Scopes;
-use cc_symbols::{Completed, Declared, Findings, Known, Offence, Outer, Slots, Symbols, lesser, rule};
+use cc_symbols::{
+    Completed, Declared, Findings, Known, Offence, Outer, Slots, Symbols, lesser, rule,
+};
 use cc_tree_notes::Counted;
 use cc_types::{Shape, TypeId};
 use std::alloc::Global;

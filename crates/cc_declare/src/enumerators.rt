@@ -89,7 +89,10 @@ impl<'a> Checker<'a> {
     {
         let number = value_of(value, next);
         self.offend_if(!is_int(number), place, rule::CONSTANT);
-        let kind = self.symbols.types.intern(Shape::Integer(false, IntKind::Int))?;
+        let kind = self
+            .symbols
+            .types
+            .intern(Shape::Integer(false, IntKind::Int))?;
         let kept = kept_value(number);
         let what = self.constant_declared(named.note, kept, kind);
         self.declare(alloc, named, is_typed(value), what)?;

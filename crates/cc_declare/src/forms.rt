@@ -1,5 +1,5 @@
 // The types that the forms of a declarator make, and the rules on them.
-ghost use Rattle.std.specs.Prelude.{◌≡◌, IfOk};
+ghost use Rattle.std.specs.Prelude.{◌≡◌, IfOk, OnOk};
 ghost use Rattle.cc_declare.specs.Forms as spec;
 
 use crate::checker::Checker;
@@ -64,9 +64,23 @@ impl<'a> Checker<'a> {
             Some(t) => {
                 let is_broken = is_void(self.symbols.types.shape(t));
                 let made = self.symbols.types.intern(Shape::Pointer(is_const, t))?;
-                Ok(shaped.faulted_if(is_broken, note, rule::POINTER_TO_VOID).with_kind(Some(made)))
+                Ok(
+                    shaped
+                        .faulted_if(is_broken, note, rule::POINTER_TO_VOID)
+                        .with_kind(Some(made)),
+                )
             }
         }
+    }
+
+    // The same, where these are to be the elements of an array (C19, C20).
+    fn of_elements(&self, note: Counted, a: Shape, shaped: Shaped) -> Shaped
+        ensures { result ≡ spec.of_elements self.now note a shaped }
+    {
+        let is_wrong = lacks_length(a) || self.has_too_many_cells(a);
+        shaped
+            .faulted_if(self.is_no_object(a), note, rule::OBJECT_TYPE)
+            .faulted_if(is_wrong, note, rule::ARRAY_SIZE)
     }
 
     // An array of these elements, of this length (C19, C20).
@@ -81,12 +95,15 @@ impl<'a> Checker<'a> {
         ensures { IfOk result (λ r. (self.new, r) ≡ spec.array_of_made self.old note length may_lack shaped element) }
     {
         let shape = self.symbols.types.shape(element);
-        let shaped = shaped.faulted_if(self.is_no_object(shape), note, rule::OBJECT_TYPE);
-        let shaped = shaped.faulted_if(lacks_length(shape), note, rule::ARRAY_SIZE);
+        let shaped = self.of_elements(note, shape, shaped);
         let made = self.symbols.types.array(element, length_of(length))?;
         let is_large = self.has_too_many_cells(self.symbols.types.shape(made));
         let is_broken = is_wrong_length(length, may_lack) || is_large;
-        Ok(shaped.faulted_if(is_broken, note, rule::ARRAY_SIZE).with_kind(Some(made)))
+        Ok(
+            shaped
+                .faulted_if(is_broken, note, rule::ARRAY_SIZE)
+                .with_kind(Some(made)),
+        )
     }
 
     // The same of this, if it has a type.
@@ -105,14 +122,14 @@ impl<'a> Checker<'a> {
         }
     }
 
-    // An array of this whose length is no constant (C19): it has no type.
+    // An array of this whose length is no constant: it has no type.
     fn array_without(&self, note: Counted, shaped: Shaped) -> Shaped
         ensures { result ≡ spec.array_without self.now note shaped }
     {
         match shaped.kind {
             Some(t) => {
-                let is_broken = self.is_no_object(self.symbols.types.shape(t));
-                shaped.faulted_if(is_broken, note, rule::OBJECT_TYPE).with_kind(None)
+                let shape = self.symbols.types.shape(t);
+                self.of_elements(note, shape, shaped).with_kind(None)
             }
             None => shaped,
         }
@@ -204,8 +221,9 @@ impl<'a> Checker<'a> {
         ensures { result ≡ spec.is_void_alone self.now kinds.now }
     {
         match kinds {
+            [] => false,
             [kind] => self.is_void_type(*kind),
-            _ => false,
+            [_, _, ..] => false,
         }
     }
 
@@ -222,7 +240,11 @@ impl<'a> Checker<'a> {
         let is_broken = is_no_result(self.symbols.types.shape(value)) || self.has_struct(kinds);
         let f = self.symbols.types.function(value)?;
         let made = self.takes_all(kinds, f)?;
-        Ok(shaped.faulted_if(is_broken, note, rule::FUNCTION_TYPE).with_kind(Some(made)))
+        Ok(
+            shaped
+                .faulted_if(is_broken, note, rule::FUNCTION_TYPE)
+                .with_kind(Some(made)),
+        )
     }
 
     /// A function with these parameters and this as its result. Where a parameter has no type, nothing is judged.
@@ -238,7 +260,10 @@ impl<'a> Checker<'a> {
             return Ok(shaped.unjudged());
         }
         match shaped.kind {
-            None => Ok(shaped),
+            None => {
+                let is_broken = self.has_struct(kinds.as_slice());
+                Ok(shaped.faulted_if(is_broken, note, rule::FUNCTION_TYPE))
+            }
             Some(value) => {
                 let mut kinds = kinds;
                 kinds.reverse();
@@ -251,9 +276,16 @@ impl<'a> Checker<'a> {
     fn depth(&mut self, kind: TypeId) -> Result<u64, Memory>
         ensures { IfOk result (λ n. (self.new, n) ≡ spec.depth_asked self.old kind) }
     {
-        self.symbols.depths.catch_up(&self.symbols.types, &self.symbols.structs)?;
+        self.symbols
+            .depths
+            .catch_up(&self.symbols.types, &self.symbols.structs)?;
         let shape = self.symbols.types.shape(kind);
-        Ok(self.symbols.depths.depth(&self.symbols.structs, shape).whole)
+        Ok(
+            self.symbols
+                .depths
+                .depth(&self.symbols.structs, shape)
+                .whole,
+        )
     }
 
     // What is too deep at this node (C20) has no type.
@@ -292,17 +324,18 @@ impl<'a> Checker<'a> {
         })
     }
 
-    /// The type of a type name, whose node this is; `outermost` is the note of its outermost form. What it breaks is
-    /// excused before a null constant, where the cast is judged.
+    /// The type of a type name, whose node this is; `outermost` is the note of its outermost form. `(void *)` is excused
+    /// from C22 where it stands before a zero.
     pub fn type_name(
         &mut self,
         note: Counted,
         outermost: Option<Counted>,
-        is_excused: bool,
+        is_before_zero: bool,
         shaped: Shaped,
     ) -> Result<(), Memory>
-        ensures { IfOk result (λ r. self.new ≡ spec.type_name_made self.old note outermost is_excused shaped) }
+        ensures { OnOk result (self.new ≡ spec.type_name_made self.old note outermost is_before_zero shaped) }
     {
+        let is_excused = is_before_zero && self.is_void_pointer(shaped.kind);
         let formed = self.formed(outermost, shaped.excused_if(is_excused))?;
         self.symbols.kinds.put(note.number, formed.kind);
         Ok(())
@@ -313,7 +346,9 @@ fn limited_by(note: Counted, is_deep: bool, shaped: Shaped) -> Shaped
     ensures { result ≡ spec.limited_by note is_deep shaped }
 {
     if is_deep {
-        shaped.faulted_if(true, note, rule::ARRAY_SIZE).with_kind(None)
+        shaped
+            .faulted_if(true, note, rule::ARRAY_SIZE)
+            .with_kind(None)
     } else {
         shaped
     }

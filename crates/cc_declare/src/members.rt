@@ -133,13 +133,12 @@ impl<'a> Checker<'a> {
         ensures { IfOk result (λ same. (self.new, same) ≡ spec.struct_completed self.old note id fields) }
     {
         let id = self.same_struct(alloc, id, &fields)?;
-        self.symbols.depths.catch_up(&self.symbols.types, &self.symbols.structs)?;
-        self.symbols.structs.complete(
-            &self.symbols.types,
-            &self.symbols.depths,
-            id,
-            fields.list,
-        );
+        self.symbols
+            .depths
+            .catch_up(&self.symbols.types, &self.symbols.structs)?;
+        self.symbols
+            .structs
+            .complete(&self.symbols.types, &self.symbols.depths, id, fields.list);
         self.completed.push(Completed {
             id,
             spot: note.spot,

@@ -1,7 +1,6 @@
 // The name that a declarator declares, and the parts that stand next to it.
-ghost use Rattle.std.specs.Prelude.{◌≡◌};
+ghost use Rattle.std.specs.Prelude.{◌≡◌, option_map};
 ghost use Rattle.cc_tree.specs.Views.{view_declarator, types_of};
-ghost use Rattle.cc_tree.specs.Views as views;
 ghost use Rattle.cc_declare.specs.Naming as spec;
 
 use cc_tree::{Declarator, TypeName};
@@ -57,7 +56,7 @@ pub fn is_nearest(d: &Declarator<Counted>) -> bool
 
 /// The parameters of a declarator whose form nearest to the name is that of a function.
 pub fn formals<'a>(d: &'a Declarator<Counted>) -> Option<&'a [TypeName<Counted>]>
-    ensures { spec.formals_part result ≡ spec.formals_in (view_declarator d.now) }
+    ensures { option_map (λ ps. types_of ps.now) result ≡ spec.formals_in (view_declarator d.now) }
 {
     match d {
         Declarator::Name(_, _) | Declarator::Nameless => None,
@@ -98,7 +97,8 @@ pub fn is_lone_unnamed(ps: &[TypeName<Counted>]) -> bool
     ensures { result ≡ spec.is_lone_unnamed (types_of ps.now) }
 {
     match ps {
+        [] => false,
         [p] => !has_name(&p.declarator),
-        _ => false,
+        [_, _, ..] => false,
     }
 }

@@ -93,8 +93,9 @@ impl<'a> Checker<'a> {
         ensures { result ≡ spec.is_void_list self.now (types_of ps.now) }
     {
         match ps {
+            [] => false,
             [p] => is_lone_unnamed(ps) && self.is_void_parameter(p.note),
-            _ => false,
+            [_, _, ..] => false,
         }
     }
 

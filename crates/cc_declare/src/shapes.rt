@@ -15,6 +15,16 @@ pub fn is_void(a: Shape) -> bool
     matches!(a, Shape::Void(_))
 }
 
+// Whether this is void, not const.
+fn is_plain_void(a: Shape) -> bool
+    ensures { result ≡ spec.is_plain_void a }
+{
+    match a {
+        Shape::Void(k) => !k,
+        _ => false,
+    }
+}
+
 /// Whether this is an array.
 pub fn is_array(a: Shape) -> bool
     ensures { result ≡ spec.is_array a }
@@ -75,6 +85,26 @@ impl<'a> Checker<'a> {
     {
         match kind {
             Some(t) => is_void(self.symbols.types.shape(t)),
+            None => false,
+        }
+    }
+
+    // Whether this is a pointer to void, neither of them const.
+    fn points_to_void(&self, a: Shape) -> bool
+        ensures { result ≡ spec.points_to_void self.now a }
+    {
+        match a {
+            Shape::Pointer(k, t) => !k && is_plain_void(self.symbols.types.shape(t)),
+            _ => false,
+        }
+    }
+
+    /// Whether a type is `void *`, with no const.
+    pub fn is_void_pointer(&self, kind: Option<TypeId>) -> bool
+        ensures { result ≡ spec.is_void_pointer self.now kind }
+    {
+        match kind {
+            Some(t) => self.points_to_void(self.symbols.types.shape(t)),
             None => false,
         }
     }

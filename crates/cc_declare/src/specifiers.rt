@@ -295,11 +295,7 @@ impl<'a> Checker<'a> {
     }
 
     // The same type, const if it is to be.
-    fn const_type(
-        &mut self,
-        is_const: bool,
-        kind: Option<TypeId>,
-    ) -> Result<Option<TypeId>, Memory>
+    fn const_type(&mut self, is_const: bool, kind: Option<TypeId>) -> Result<Option<TypeId>, Memory>
         ensures { IfOk result (λ t. (self.new, t) ≡ spec.const_made self.old is_const kind) }
     {
         match kind {

@@ -66,7 +66,7 @@ abbrev pub parameter_as : Counted → DeclTree Counted → Specified → Checker
 parameter_as n d p q = parameter_made (name_in d) n p q.1 q.0
 
 abbrev pub type_name_as : Counted → DeclTree Counted → Bool → Checker × Shaped → Checker
-type_name_as n d is_excused p = type_name_made p.0 n (note_in d) is_excused p.1
+type_name_as n d is_before_zero p = type_name_made p.0 n (note_in d) is_before_zero p.1
 
 abbrev pub has_members : MemberTrees Counted → Bool
 has_members no_members = false
@@ -133,9 +133,9 @@ abbrev mutual
       parameter_as n d p.1 (formed_of d (shaped d true (based p.1.kind) p.0))
 
   pub type_named : Bool → TypeTree Counted → Checker → Checker
-  type_named is_excused (type_name n ss d) s =
+  type_named is_before_zero (type_name n ss d) s =
       let p = said at.TypeName (first_note n ss) (said_all ss nothing_said s) in
-      type_name_as n d is_excused (shaped d false (based p.1.kind) p.0)
+      type_name_as n d is_before_zero (shaped d false (based p.1.kind) p.0)
 
   pub said_all : SpecTrees Counted → Said → Checker → Checker × Said
   said_all no_specs d s = (s, d)

@@ -144,19 +144,19 @@ fn parameter<'a>(
     checker.parameter(alloc, p.note, said, name_of(&p.declarator), formed)
 }
 
-// The type of a type name. What its own forms break is excused before a null constant.
+// The type of a type name. One that stands before a zero may be `void *`.
 #[cycle(declare)]
 fn type_name<'a>(
     alloc: Global,
     checker: &mut Checker<'a>,
-    is_excused: bool,
+    is_before_zero: bool,
     t: &'a TypeName<Counted>,
 ) -> Result<(), Memory>
-    ensures { OnOk result (checker.new ≡ spec.type_named is_excused (view_type t.now) checker.old) }
+    ensures { OnOk result (checker.new ≡ spec.type_named is_before_zero (view_type t.now) checker.old) }
 {
     let said = specifiers(alloc, checker, Setting::TypeName, t.note, t.specs.as_slice())?;
     let made = shaped(alloc, checker, Shaped::based(said.kind), false, &t.declarator)?;
-    checker.type_name(t.note, note_of(&t.declarator), is_excused, made)
+    checker.type_name(t.note, note_of(&t.declarator), is_before_zero, made)
 }
 
 // The note of the first specifier; of none, this one.
