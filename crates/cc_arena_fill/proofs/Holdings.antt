@@ -295,5 +295,6 @@ held A f =
 
 pub file_is_held : (A B : Arena) (file : List (ExternalTree Counted)) → B ≡ put_file file A → HoldsIfNumbered A B file
 file_is_held A B file is f next e =
-    let goal : IsHeld A (put_file (file, next).0 A) (file, next).0 (file, next).1 = subst (λ p. IsHeld A (put_file p.0 A) p.0 p.1) (sym e) (held A f) in
+    let pair : List (ExternalTree Counted) × ℕ = (file, next) in
+    let goal : IsHeld A (put_file pair.0 A) pair.0 pair.1 = subst (λ (p : List (ExternalTree Counted) × ℕ). IsHeld A (put_file p.0 A) p.0 p.1) (sym e) (held A f) in
     subst (λ C. IsHeld A C file next) (sym is) goal

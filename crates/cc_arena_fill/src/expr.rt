@@ -47,7 +47,8 @@ pub(crate) fn fill_expr(arena: &mut Arena, up: u32, e: &Expr<Counted>) -> Result
                 note,
                 Node::Binary(*op, number(a.get()), number(b.get())),
             )?;
-            fill_two(arena, note.number, a.get(), b.get())
+            fill_expr(arena, note.number, a.get())?;
+            fill_expr(arena, note.number, b.get())
         }
         Expr::Assign(note, op, a, b) => {
             put(
@@ -56,7 +57,8 @@ pub(crate) fn fill_expr(arena: &mut Arena, up: u32, e: &Expr<Counted>) -> Result
                 note,
                 Node::Assign(*op, number(a.get()), number(b.get())),
             )?;
-            fill_two(arena, note.number, a.get(), b.get())
+            fill_expr(arena, note.number, a.get())?;
+            fill_expr(arena, note.number, b.get())
         }
         Expr::Step(note, op, side, e) => {
             put(arena, up, note, Node::Step(*op, *side, number(e.get())))?;
@@ -70,7 +72,8 @@ pub(crate) fn fill_expr(arena: &mut Arena, up: u32, e: &Expr<Counted>) -> Result
                 Node::Cond(number(c.get()), number(a.get()), number(b.get())),
             )?;
             fill_expr(arena, note.number, c.get())?;
-            fill_two(arena, note.number, a.get(), b.get())
+            fill_expr(arena, note.number, a.get())?;
+            fill_expr(arena, note.number, b.get())
         }
         Expr::Comma(note, a, b) => {
             put(
@@ -79,7 +82,8 @@ pub(crate) fn fill_expr(arena: &mut Arena, up: u32, e: &Expr<Counted>) -> Result
                 note,
                 Node::Comma(number(a.get()), number(b.get())),
             )?;
-            fill_two(arena, note.number, a.get(), b.get())
+            fill_expr(arena, note.number, a.get())?;
+            fill_expr(arena, note.number, b.get())
         }
         Expr::Call(note, f, args) => {
             let span = list_exprs(arena, args.as_slice())?;
@@ -102,7 +106,8 @@ pub(crate) fn fill_expr(arena: &mut Arena, up: u32, e: &Expr<Counted>) -> Result
                 note,
                 Node::Index(number(a.get()), number(i.get())),
             )?;
-            fill_two(arena, note.number, a.get(), i.get())
+            fill_expr(arena, note.number, a.get())?;
+            fill_expr(arena, note.number, i.get())
         }
         Expr::Cast(note, t, e) => {
             put(
@@ -123,15 +128,6 @@ pub(crate) fn fill_expr(arena: &mut Arena, up: u32, e: &Expr<Counted>) -> Result
             fill_type(arena, note.number, t.get())
         }
     }
-}
-
-// Two expressions that stand side by side.
-#[cycle(fill)]
-fn fill_two(arena: &mut Arena, up: u32, a: &Expr<Counted>, b: &Expr<Counted>) -> Result<(), Memory>
-    ensures { OnOk result (arena.new ≡ spec.put_expr (view b.now) up (spec.put_expr (view a.now) up arena.old)) }
-{
-    fill_expr(arena, up, a)?;
-    fill_expr(arena, up, b)
 }
 
 #[cycle(fill)]

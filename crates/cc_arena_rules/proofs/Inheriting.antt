@@ -22,7 +22,7 @@ module _ {V : Type 0} (step : ℕ → Placed → Option V → V) (start : ℕ) w
       let new = step (start + length done) x (answer_at done start x.parent) in
       let longer : length done < length (done ++ new ∷ more) = omega (arith, length-append done (new ∷ more)) in
       let front : take (length done) all ≡ done = ap (take (length done)) is ∙ take-append_seam done (new ∷ more) in
-      let at : slice_get all (length done) ≡ Some new = ap (λ l. slice_get l (length done)) is ∙ slice_get-get_or (done ++ new ∷ more) (length done) new longer ∙ ap Some (get_or-append_seam done more new new) in
+      let at : slice_get all (length done) ≡ Some new = ap (λ l. slice_get l (length done)) is ∙ slice_get-get_or (done ++ new ∷ more) (length done) new longer ∙ ap Some (get_or-append_seam done new more new) in
       at ∙ ap (λ l. Some (step (start + length done) x (answer_at l start x.parent))) (sym front)
 
   each_of : (x : Placed) (xs : List Placed) (done all more : List V) → all ≡ done ++ step (start + length done) x (answer_at done start x.parent) ∷ more → ((i : ℕ) (y : Placed) → slice_get xs i ≡ Some y → IsStep all (length done + suc i) y) → (i : ℕ) (y : Placed) → slice_get (x ∷ xs) i ≡ Some y → IsStep all (length done + i) y

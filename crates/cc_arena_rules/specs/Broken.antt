@@ -21,7 +21,7 @@ use Rattle.cc_arena_rules.specs.declared.around.Extent.{Extent}
 use Rattle.cc_arena_rules.specs.declared.around.Extent.TheVariants as extent
 use Rattle.cc_arena_rules.specs.declared.broken.Judging.{Judging}
 use Rattle.cc_arena_rules.specs.Below.{is_null_cast}
-use Rattle.cc_arena_rules.specs.Looks.{node_at, type_at, named, is_some, is_automatic, is_one_struct, is_struct, inside}
+use Rattle.cc_arena_rules.specs.Looks.{node_at, type_at, named, is_some, is_automatic, is_struct, inside}
 
 -- what rules are judged by: of the variables whose address is taken, and of the nodes from `start` on that are names that
 -- stand twice in a full expression, a flag each
@@ -141,5 +141,5 @@ is_place what = false
 
 -- C52: a struct is used as a value, or one with a const part is assigned
 abbrev pub breaks_struct : Symbols → Findings → Node → ℕ → Around → Bool
-breaks_struct S F (node.Assign assign.Plain target value) n around = is_one_struct (type_at F target) (type_at F value) && has_const_part S (type_at F target)
+breaks_struct S F (node.Assign assign.Plain target value) n around = is_some (type_at F value) && (is_struct (type_at F target) && has_const_part S (type_at F target))
 breaks_struct S F what n around = is_place what && (is_struct (type_at F n) && around.is_value)

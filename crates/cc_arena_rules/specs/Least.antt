@@ -33,10 +33,14 @@ abbrev pub offence_at : Judged → ℕ → Placed → Option Around → Option O
 offence_at j n x (Some around) = offence_of x (rule_at j n x around)
 offence_at j n x None = None
 
+-- the lesser one of what was found and the offence at the node n
+unfoldable pub lesser_at : Judged → List Around → ℕ → Placed → Option Offence → Option Offence
+lesser_at j around n x found = lesser found (offence_at j n x (answer_at around j.start n))
+
 -- the least of what was found and of the offences at the nodes from the n-th on
 abbrev pub least_from : Judged → List Around → List Placed → ℕ → Option Offence → Option Offence
 least_from j around [] n least = least
-least_from j around (x ∷ xs) n least = least_from j around xs (n + 1) (lesser least (offence_at j n x (answer_at around j.start n)))
+least_from j around (x ∷ xs) n least = least_from j around xs (n + 1) (lesser_at j around n x least)
 
 abbrev pub judged_in : Arena → Symbols → Findings → List Around → ℕ → ℕ → Judged
 judged_in A S F around start last = record {

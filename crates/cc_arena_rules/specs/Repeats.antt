@@ -1,5 +1,5 @@
 -- Which names stand twice in one full expression.
-use Rattle.std.specs.Prelude.{ℕ, ◌+◌, ◌-◌, Bool, true, false, nat_eq, nat_le, if◌then◌else◌, List, [], ◌∷◌, Option, Some, None, length, slice_get, slice_set}
+use Rattle.std.specs.Prelude.{ℕ, ◌+◌, ◌-◌, ◌<◌, ◌≡◌, ◌≢◌, Bool, true, false, nat_eq, nat_le, if◌then◌else◌, List, [], ◌∷◌, Option, Some, None, length, slice_get, slice_set}
 use Rattle.cc_arena.specs.declared.arena.Arena.{Arena}
 use Rattle.cc_arena.specs.declared.arena.Placed.{Placed}
 use Rattle.cc_arena.specs.declared.node.Node.{Node}
@@ -54,3 +54,32 @@ no_meetings S nodes = record { last = grown [] (length S.declared) None; flags =
 
 abbrev pub repeats : Arena → Symbols → List Around → ℕ → ℕ → List Bool
 repeats A S around start last = (met_from S around start (nodes_in A start last) start (no_meetings S (nodes_in A start last))).flags
+
+-- the node at this place of the stretch is a name of the declaration d and stands in the full expression `whole`
+pub record Occurs (S : Symbols) (around : List Around) (start : ℕ) (nodes : List Placed) (place whole d : ℕ) : Type 0 where
+  pub placed : Placed
+  pub there : slice_get nodes place ≡ Some placed
+  pub stands : whole_of placed.node (answer_at around start (start + place)) ≡ Some whole
+  pub names : named S (start + place) ≡ Some d
+
+-- so does another one
+pub record OccursTwice (S : Symbols) (around : List Around) (start : ℕ) (nodes : List Placed) (place : ℕ) : Type 0 where
+  pub whole : ℕ
+  pub declaration : ℕ
+  pub other : ℕ
+  pub differs : other ≢ place
+  pub one : Occurs S around start nodes place whole declaration
+  pub two : Occurs S around start nodes other whole declaration
+
+-- between two names in one full expression stands none of the same declaration in another one, since it is one stretch
+abbrev pub AreStretches : Symbols → List Around → ℕ → List Placed → Type 0
+AreStretches S around start nodes = (i j k whole between d : ℕ) → i < j → j < k
+    → Occurs S around start nodes i whole d → Occurs S around start nodes j between d → Occurs S around start nodes k whole d
+    → between ≡ whole
+
+-- the flags are those of the names that stand twice
+pub record AreRepeats (S : Symbols) (around : List Around) (start : ℕ) (nodes : List Placed) (flags : List Bool) : Type 0 where
+  pub long : length flags ≡ length nodes
+  pub only : (i : ℕ) → slice_get flags i ≡ Some true → OccursTwice S around start nodes i
+  pub each : AreStretches S around start nodes → (i : ℕ) (t : OccursTwice S around start nodes i)
+      → t.declaration < length S.declared → slice_get flags i ≡ Some true

@@ -4,7 +4,7 @@ ghost use Rattle.cc_arena_rules.specs.Broken as spec;
 
 use crate::around::{Around, Extent, Standing};
 use crate::below::is_null_cast;
-use crate::look::{inside, is_automatic, is_one_struct, is_struct, is_typed, named, type_at};
+use crate::look::{inside, is_automatic, is_struct, is_typed, named, type_at};
 use cc_arena::{Arena, Node};
 use cc_symbols::{Findings, Slots, Symbols};
 use cc_tree::{AssignOp, UnaryOp};
@@ -236,7 +236,8 @@ pub(crate) fn breaks_struct(
 {
     match node {
         Node::Assign(AssignOp::Plain, target, value) => {
-            is_one_struct(type_at(found, target), type_at(found, value))
+            is_typed(found, value)
+                && is_struct(type_at(found, target))
                 && has_const_part(symbols, type_at(found, target))
         }
         _ => is_place(node) && is_struct(type_at(found, n)) && around.is_value,

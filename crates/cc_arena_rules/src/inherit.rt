@@ -99,14 +99,17 @@ pub fn surroundings(
     start: u32,
     end: u32,
 ) -> Result<Slots<Around>, Memory>
-    ensures { IfOk result (λ all. all ≡ spec.surroundings arena.now symbols.now found.now start end) }
+    ensures all { IfOk result (λ all. all ≡ spec.surroundings arena.now symbols.now found.now start end) }
+    ensures each { IfOk result (λ all.
+        IsInherited (spec.around_step arena.now symbols.now found.now) start (nodes_in arena.now start end) all) }
 {
-    all_around(
+    let all = all_around(
         alloc,
         arena,
         symbols,
         found,
         nodes_in(arena, start, end),
         start,
-    )
+    )?;
+    Ok(all)
 }

@@ -59,6 +59,21 @@ fn offence_at(judging: &Judging, n: u32, placed: Placed, own: Option<Around>) ->
     }
 }
 
+// The lesser one of what was found and the offence at the node `n`.
+#[tactic(auto, unfolding(crate::specs::Least::lesser_at))]
+fn lesser_at(
+    judging: &Judging,
+    around: &[Around],
+    n: u32,
+    placed: Placed,
+    found: Option<Offence>,
+) -> Option<Offence>
+    ensures { result ≡ spec.lesser_at (judged judging.now) around.now n placed found }
+{
+    let own = around_at(around, judging.start, n);
+    lesser(found, offence_at(judging, n, placed, own))
+}
+
 fn least(judging: &Judging, nodes: &[Placed], around: &[Around]) -> Option<Offence>
     requires { judging.now.start + length nodes.now < 2 ^ 32 }
     ensures { result ≡ spec.least_from (judged judging.now) around.now nodes.now judging.now.start None }
@@ -66,8 +81,7 @@ fn least(judging: &Judging, nodes: &[Placed], around: &[Around]) -> Option<Offen
     let mut least = None;
     let mut n = judging.start;
     for placed in nodes {
-        let own = around_at(around, judging.start, n);
-        least = lesser(least, offence_at(judging, n, *placed, own));
+        least = lesser_at(judging, around, n, *placed, least);
         n += 1;
     }
     least

@@ -1,5 +1,6 @@
 // Which names stand twice in one full expression.
 ghost use Rattle.std.specs.Prelude.{◌≡◌, ◌+◌, ◌<◌, ◌^◌, [], length, IfOk};
+ghost use Rattle.cc_arena_rules.specs.Looks.{nodes_in};
 ghost use Rattle.cc_arena_rules.specs.Repeats as spec;
 
 use crate::around::{Around, Extent};
@@ -118,7 +119,9 @@ pub(crate) fn repeats(
     start: u32,
     end: u32,
 ) -> Result<Slots<bool>, Memory>
-    ensures { IfOk result (λ flags. flags ≡ spec.repeats arena.now symbols.now around.now start end) }
+    ensures flags { IfOk result (λ flags. flags ≡ spec.repeats arena.now symbols.now around.now start end) }
+    ensures exact { IfOk result (λ flags.
+        spec.AreRepeats symbols.now around.now start (nodes_in arena.now start end) flags) }
 {
     let nodes = nodes_in(arena, start, end);
     let mut last = Slots::new(alloc);

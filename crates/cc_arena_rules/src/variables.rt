@@ -1,6 +1,7 @@
 // Of which variables the address is taken.
 ghost use Rattle.std.specs.Prelude.{◌≡◌, ◌+◌, ◌<◌, ◌^◌, length, OnOk, IfOk};
 ghost use Rattle.cc_arena_rules.specs.Inherited.{answer_at};
+ghost use Rattle.cc_arena_rules.specs.Looks.{nodes_in, named};
 ghost use Rattle.cc_arena_rules.specs.Variables as spec;
 
 use crate::around::Around;
@@ -68,7 +69,9 @@ pub fn taken(
     start: u32,
     end: u32,
 ) -> Result<Slots<bool>, Memory>
-    ensures { IfOk result (λ flags. flags ≡ spec.taken arena.now symbols.now around.now start end) }
+    ensures flags { IfOk result (λ flags. flags ≡ spec.taken arena.now symbols.now around.now start end) }
+    ensures taken { IfOk result (λ flags.
+        spec.AreTaken symbols.now around.now start (nodes_in arena.now start end) flags) }
 {
     let mut flags = Slots::new(alloc);
     flags.grow(symbols.declared.count()?, false)?;
