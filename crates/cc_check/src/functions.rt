@@ -1,25 +1,33 @@
 // Functions with bodies.
+ghost use Rattle.std.specs.Prelude.{◌≡◌, IfOk, OnOk};
+ghost use Rattle.cc_tree.specs.Views.{view_declarator, view_block, specs_of, types_of};
+ghost use Rattle.cc_declare.specs.Naming.{name_part, formals_in};
+ghost use Rattle.cc_check.specs.Functions as spec;
 
 use crate::outer::{declare_linked, keep_outer, outer_declared};
-use crate::statements::{Walk, items};
-use crate::storage::{Region, check_inline, form, judged_declarator, word_of};
+use crate::statements::{Walk, body};
+use crate::storage::{Region, check_inline, form, is_typedef, judged_declarator, word_of};
 use cc_base::Memory;
 use cc_declare::{Checker, Formed, Named, Setting, Specified, formals, has_unnamed, name_of};
 use cc_declare_cycle::{declarator, specifiers};
 use cc_symbols::{Form, Role, rule};
-use cc_tree::{Declarator, Function, SpecWord, TypeName};
+use cc_tree::{Declarator, Function, TypeName};
 use cc_tree_notes::Counted;
-use cc_types::{Shape, TypeId};
+use cc_types::{Shape, TypeId, TypeTable};
 use std::alloc::Global;
 
 // Whether a function with a body can't have these parameters: one has no name (C23). A lone void without a name is none.
-fn is_short_of_names<'a>(checker: &Checker<'a>, ps: &[TypeName<Counted>]) -> bool {
+fn is_short_of_names<'a>(checker: &Checker<'a>, ps: &[TypeName<Counted>]) -> bool
+    ensures { result ≡ spec.is_short_of_names checker.now (types_of ps.now) }
+{
     !checker.is_void_list(ps) && has_unnamed(ps)
 }
 
 // Whether a body can't stand behind this declarator (C23): it is no function declarator of its own, or a parameter has no
 // name.
-fn is_no_head<'a>(checker: &Checker<'a>, d: &Declarator<Counted>) -> bool {
+fn is_no_head<'a>(checker: &Checker<'a>, d: &Declarator<Counted>) -> bool
+    ensures { result ≡ spec.is_no_head checker.now (view_declarator d.now) }
+{
     match formals(d) {
         Some(ps) => is_short_of_names(checker, ps),
         None => true,
@@ -33,63 +41,71 @@ fn check_head<'a>(
     said: Specified,
     formed: Formed,
     d: &Declarator<Counted>,
-) {
-    let is_broken = word_of(said) == Some(SpecWord::Typedef) || is_no_head(checker, d);
+)
+    ensures { checker.new ≡ spec.head_checked note said formed (view_declarator d.now) checker.old }
+{
+    let is_broken = is_typedef(word_of(said)) || is_no_head(checker, d);
     checker.offend_if(formed.is_judged && is_broken, note, rule::FUNCTION_BODY);
 }
 
-// C19 and C20 of a body's name that has no function type.
-fn check_other<'a>(checker: &mut Checker<'a>, note: Counted, form: Form, formed: Formed) {
-    if let Form::Object(_) = form {
-        checker.object(note, formed, true);
-    }
-}
-
-// Declares what has a body, and keeps it for linking.
+// Declares what has a body, with C18, and keeps it for linking.
 fn declare_head<'a>(
     alloc: Global,
     checker: &mut Checker<'a>,
     named: Named<'a>,
     said: Specified,
+    form: Form,
     formed: Formed,
-) -> Result<(), Memory> {
-    let form = form(Region::File, word_of(said), checker.shape_of(formed.kind));
-    check_other(checker, named.note, form, formed);
+) -> Result<(), Memory>
+    ensures { OnOk result (checker.new ≡ spec.head_declared named.entry.note named.entry.name.now said form formed checker.old) }
+{
     let what = outer_declared(checker, named, word_of(said), form, formed.kind, true);
     let number = declare_linked(alloc, checker, named, formed.is_judged, what)?;
-    keep_outer(checker, named, number, what, Role::Defines)
+    keep_outer(checker, named.note, number, what, Role::Defines)
 }
 
-// The name, the rules and the declaration of what has a body.
+// The same, if it has a name.
+fn declare_named<'a>(
+    alloc: Global,
+    checker: &mut Checker<'a>,
+    named: Option<Named<'a>>,
+    said: Specified,
+    form: Form,
+    formed: Formed,
+) -> Result<(), Memory>
+    ensures { OnOk result (checker.new ≡ spec.named_declared (name_part named.entry) said form formed checker.old) }
+{
+    match named {
+        Some(named) => declare_head(alloc, checker, named, said, form, formed),
+        None => Ok(()),
+    }
+}
+
+// The rules on what has a body, and its declaration; its type.
 fn head<'a>(
     alloc: Global,
     checker: &mut Checker<'a>,
     f: &'a Function<Counted>,
-) -> Result<Option<TypeId>, Memory> {
+) -> Result<Option<TypeId>, Memory>
+    ensures { IfOk result (λ r. (checker.new, r) ≡ spec.head f.now.note (specs_of f.now.specs) (view_declarator f.now.declarator) checker.old) }
+{
     let said = specifiers(alloc, checker, Setting::File, f.note, f.specs.as_slice())?;
     let formed = declarator(alloc, checker, said.kind, true, &f.declarator)?;
-    check_head(checker, f.note, said, formed, &f.declarator);
     let form = form(Region::File, word_of(said), checker.shape_of(formed.kind));
+    check_head(checker, f.note, said, formed, &f.declarator);
     check_inline(checker, f.note, said, judged_declarator(formed, form, true));
-    if let Some(named) = name_of(&f.declarator) {
-        declare_head(alloc, checker, named, said, formed)?;
-    }
+    declare_named(alloc, checker, name_of(&f.declarator), said, form, formed)?;
     Ok(formed.kind)
 }
 
-// The type of what a function gives.
-fn returned_by<'a>(checker: &Checker<'a>, kind: Option<TypeId>) -> Option<TypeId> {
-    match kind {
-        Some(kind) => returned_by_type(checker, kind),
-        None => None,
-    }
-}
-
-// The type of what a function of this type gives: it stands behind the parameters, each of which has a number of its own.
-fn returned_by_type<'a>(checker: &Checker<'a>, kind: TypeId) -> Option<TypeId> {
+// The type of what a function of this type gives. It stands behind the parameters, and each has a number of its own, so they
+// are fewer than the number of the type.
+fn returned_by_type(types: &TypeTable, kind: TypeId) -> Option<TypeId>
+    ensures { result ≡ spec.returned_by_type types.now kind }
+{
     let mut rest = kind;
-    for _ in 0..kind.0 {
-        match checker.symbols.types.shape(rest) {
+    for step in 0..kind.0 {
+        match types.shape(rest) {
             Shape::Takes(_, others) => rest = others,
             Shape::Function(value) => return Some(value),
             _ => return None,
@@ -98,11 +114,19 @@ fn returned_by_type<'a>(checker: &Checker<'a>, kind: TypeId) -> Option<TypeId> {
     None
 }
 
+fn returned_by(types: &TypeTable, kind: Option<TypeId>) -> Option<TypeId>
+    ensures { result ≡ spec.returned_by types.now kind }
+{
+    match kind {
+        Some(kind) => returned_by_type(types, kind),
+        None => None,
+    }
+}
+
 // The formals of what has a body, in the scope of the body.
-fn declare_formals<'a>(
-    checker: &mut Checker<'a>,
-    d: &'a Declarator<Counted>,
-) -> Result<(), Memory> {
+fn declare_formals<'a>(checker: &mut Checker<'a>, d: &'a Declarator<Counted>) -> Result<(), Memory>
+    ensures { OnOk result (checker.new ≡ spec.formals_in_body (formals_in (view_declarator d.now)) checker.old) }
+{
     match formals(d) {
         Some(ps) => checker.declare_formals(ps),
         None => Ok(()),
@@ -114,12 +138,14 @@ pub fn function<'a>(
     alloc: Global,
     walk: &mut Walk<'a>,
     f: &'a Function<Counted>,
-) -> Result<(), Memory> {
+) -> Result<(), Memory>
+    ensures { OnOk result (walk.new ≡ spec.function_walked f.now.note (specs_of f.now.specs) (view_declarator f.now.declarator) (view_block f.now.body) walk.old) }
+{
     let kind = head(alloc, &mut walk.checker, f)?;
-    let returned = returned_by(&walk.checker, kind);
+    let returned = returned_by(&walk.checker.symbols.types, kind);
     walk.checker.enter()?;
     declare_formals(&mut walk.checker, &f.declarator)?;
-    items(alloc, walk, returned, f.body.items.as_slice())?;
+    body(alloc, walk, returned, &f.body)?;
     walk.checker.leave();
     Ok(())
 }

@@ -1,5 +1,6 @@
 -- Initialisers of scalars.
-use Rattle.std.specs.Prelude.{Bool, ◌&&◌, is_none, if◌then◌else◌, Option, Some, None}
+use Rattle.std.specs.Prelude.{Bool, ◌&&◌, if◌then◌else◌, Option, Some, None}
+use Rattle.std.specs.Option.{is_none}
 use Rattle.cc_tree.specs.Trees.{ExprTree, ValueTree, single, braces, ValueTrees, no_values, more_values}
 use Rattle.cc_tree_notes.specs.declared.note.Counted.{Counted}
 use Rattle.cc_tree_walks.specs.Notes.{expr_note}
