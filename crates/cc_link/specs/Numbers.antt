@@ -12,10 +12,10 @@ use Rattle.cc_symbols.specs.declared.declared.Declared.{Declared}
 use Rattle.cc_symbols.specs.declared.declared.Form.{Form}
 use Rattle.cc_symbols.specs.declared.declared.Form.TheVariants.{Object, Function, Typedef, Constant}
 use Rattle.cc_link.specs.declared.numbers.Numbers.{Numbers}
-use Rattle.cc_link.specs.declared.standing.Standing.{Standing}
-use Rattle.cc_link.specs.Faults.{next}
-use Rattle.cc_link.specs.Standings.{standing_at}
-use Rattle.cc_link.specs.Uses.{named_at}
+use Rattle.cc_link_rules.specs.declared.standing.Standing.{Standing}
+use Rattle.cc_link_rules.specs.Faults.{next}
+use Rattle.cc_link_rules.specs.Standings.{standing_at}
+use Rattle.cc_link_rules.specs.Uses.{named_at}
 
 abbrev pub function_number : ℕ → FuncId
 function_number n = record { 0 = n }

@@ -2,11 +2,9 @@
 ghost use Rattle.std.specs.Prelude.{◌≡◌, OnOk, IfOk};
 ghost use Rattle.cc_link.specs.Numbers as spec;
 
-use crate::fault::next;
-use crate::standing::{Standing, Standings, standing_at};
-use crate::uses::named_at;
 use cc_arena::{Arena, Node};
 use cc_base::Memory;
+use cc_link_rules::{Standing, Standings, named_at, next, standing_at};
 use cc_program::{FuncId, Referent, VarId};
 use cc_symbols::{Declared, Form, Slots, Symbols};
 use std::alloc::Global;

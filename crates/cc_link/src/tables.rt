@@ -1,33 +1,79 @@
 // The tables of a program.
-use crate::fault::next;
-use crate::linked::{Links, text_at};
+ghost use Rattle.std.specs.Prelude.{◌≡◌, OnOk, IfOk};
+ghost use Rattle.cc_link.specs.Tables as spec;
+
 use crate::numbers::{Numbers, declared_at};
-use crate::standing::{Standings, standing_at};
 use cc_arena::{Arena, Node};
 use cc_base::{List, Memory, Text};
+use cc_link_rules::{Links, Standings, next, standing_at, text_at};
 use cc_program::{FileEntry, FuncId, Function, FunctionKind, Referent, VarId, Variable};
 use cc_project::{ProjectFile, TextList};
 use cc_symbols::{CHAR, CheckedUnit, Declared, Form, Life, Slots, Symbols};
-use cc_tree_copies::copied_text;
 use std::alloc::Global;
 
-fn copied(alloc: Global, text: &str) -> Result<Text, Memory> {
+fn copied(alloc: Global, text: &str) -> Result<Text, Memory>
+    ensures { IfOk result (λ copy. copy ≡ text.now) }
+{
     Ok(Text::new(String::from_str(alloc, text)?))
 }
 
-// The block of the definition of which a node of its declarator is a part.
-fn block_over(arena: &Arena, node: u32) -> Option<u32> {
-    match arena.parent_at(node) {
-        Some(parent) if parent < node => match arena.node_at(parent) {
-            Some(Node::Definition(_, block)) => Some(block),
-            _ => block_over(arena, parent),
-        },
+// The block that a node hands to this part of it, where it was itself handed one: a definition its own to its declarator, and a
+// form of a declarator what it has to the declarator inside.
+fn block_under(node: Node, part: u32, own: Option<u32>) -> Option<u32>
+    ensures { result ≡ spec.block_under node part own }
+{
+    match node {
+        Node::Definition(Some(declarator), block) => {
+            if declarator == part {
+                Some(block)
+            } else {
+                None
+            }
+        }
+        Node::Pointer(_) | Node::Array(_, _) | Node::Function(_, _) | Node::Group(_) => own,
         _ => None,
     }
 }
 
+fn block_by(parent: Option<Node>, part: u32, own: Option<u32>) -> Option<u32>
+    ensures { result ≡ spec.block_by parent part own }
+{
+    match parent {
+        Some(node) => block_under(node, part, own),
+        None => None,
+    }
+}
+
+/// By node, the block of a definition.
+pub type Blocks = Slots<Option<u32>>;
+
+fn block_at(blocks: &Blocks, number: u32) -> Option<u32>
+    ensures { result ≡ spec.block_at blocks.now number }
+{
+    match blocks.get(number) {
+        Some(block) => block,
+        None => None,
+    }
+}
+
+/// For each node of the declarator of a definition the definition's block.
+pub fn all_blocks(alloc: Global, arena: &Arena) -> Result<Blocks, Memory>
+    ensures { IfOk result (λ blocks. blocks ≡ spec.all_blocks arena.now.nodes) }
+{
+    let mut blocks = Slots::new(alloc);
+    let mut number = 0;
+    for placed in arena.nodes.as_slice() {
+        let own = block_at(&blocks, placed.parent);
+        blocks.push(block_by(arena.node_at(placed.parent), number, own))?;
+        number = next(number);
+    }
+    Ok(blocks)
+}
+
 // Whether a declaration declares a formal.
-fn is_formal(declared: &Slots<Declared>, declaration: u32) -> bool {
+fn is_formal(declared: &Slots<Declared>, declaration: u32) -> bool
+    ensures { result ≡ spec.is_formal declared.now declaration }
+{
     match declared.get(declaration) {
         Some(declared) => matches!(declared.form, Form::Object(Life::Formal)),
         None => false,
@@ -75,7 +121,9 @@ fn formals_between(
 }
 
 // The node of the name of a declaration, in its first declarator.
-fn first_node(declared: &Slots<Declared>, declaration: u32) -> u32 {
+fn first_node(declared: &Slots<Declared>, declaration: u32) -> u32
+    ensures { result ≡ spec.first_node declared.now declaration }
+{
     match declared.get(declaration) {
         Some(declared) => declared.node,
         None => 0,
@@ -83,7 +131,9 @@ fn first_node(declared: &Slots<Declared>, declaration: u32) -> u32 {
 }
 
 // How long the variable of a declaration lives.
-fn life_of(declared: &Slots<Declared>, declaration: u32) -> Life {
+fn life_of(declared: &Slots<Declared>, declaration: u32) -> Life
+    ensures { result ≡ spec.life_of declared.now declaration }
+{
     match declared.get(declaration) {
         Some(declared) => match declared.form {
             Form::Object(life) => life,
@@ -100,6 +150,7 @@ fn function_of(
     symbols: &Symbols,
     standings: &Standings,
     arena: &Arena,
+    blocks: &Blocks,
     first: u32,
 ) -> Result<Function, Memory> {
     let standing = standing_at(standings, first);
@@ -107,7 +158,7 @@ fn function_of(
     let ty = standing.kind.unwrap_or(CHAR);
     match standing.definition {
         Some(declarator) => {
-            let body = block_over(arena, declarator);
+            let body = block_at(blocks, declarator);
             let end = body.unwrap_or(declarator);
             Ok(Function {
                 name,
@@ -137,9 +188,11 @@ pub fn functions(
     standings: &Standings,
     arena: &Arena,
 ) -> Result<List<Function>, Memory> {
+    let blocks = all_blocks(alloc, arena)?;
     let mut functions = List::new(alloc);
     for first in numbers.functions.as_slice() {
-        functions.push(function_of(alloc, numbers, symbols, standings, arena, *first)?)?;
+        let function = function_of(alloc, numbers, symbols, standings, arena, &blocks, *first)?;
+        functions.push(function)?;
     }
     Ok(functions)
 }
@@ -150,7 +203,9 @@ fn variable_of(
     symbols: &Symbols,
     standings: &Standings,
     first: u32,
-) -> Result<Variable, Memory> {
+) -> Result<Variable, Memory>
+    ensures { IfOk result (λ variable. variable ≡ spec.variable_of symbols.now standings.now first) }
+{
     let standing = standing_at(standings, first);
     let name = copied(alloc, text_at(&symbols.texts, first))?;
     Ok(Variable {
@@ -167,26 +222,40 @@ pub fn variables(
     numbers: &Numbers,
     symbols: &Symbols,
     standings: &Standings,
-) -> Result<List<Variable>, Memory> {
+) -> Result<List<Variable>, Memory>
+    ensures { IfOk result (λ variables. variables ≡ spec.variables symbols.now standings.now numbers.now.variables) }
+{
     let mut variables = List::new(alloc);
     for first in numbers.variables.as_slice() {
-        variables.push(variable_of(alloc, symbols, standings, *first)?)?;
+        let variable = variable_of(alloc, symbols, standings, *first)?;
+        variables.push(variable)?;
     }
     Ok(variables)
 }
 
 // The function that an entry names.
-fn entry_of(links: &Links, numbers: &Numbers, name: &str) -> Option<FuncId> {
+fn entry_of(links: &Links, numbers: &Numbers, name: &str) -> Option<FuncId>
+    ensures { result ≡ spec.entry_of links.now numbers.now name.now }
+{
     match links.find(name) {
-        Some(linked) => match numbers.referent(linked.first) {
-            Some(Referent::Function(function)) => Some(function),
-            _ => None,
-        },
+        Some(linked) => function_in(numbers.referent(linked.first)),
         None => None,
     }
 }
 
-fn push_entry(entries: &mut List<FuncId>, entry: Option<FuncId>) -> Result<(), Memory> {
+// The function that stands there, if it is one.
+fn function_in(referent: Option<Referent>) -> Option<FuncId>
+    ensures { result ≡ spec.function_in referent }
+{
+    match referent {
+        Some(Referent::Function(function)) => Some(function),
+        _ => None,
+    }
+}
+
+fn push_entry(entries: &mut List<FuncId>, entry: Option<FuncId>) -> Result<(), Memory>
+    ensures { OnOk result (entries.new ≡ spec.with_entry entries.old entry) }
+{
     match entry {
         Some(entry) => entries.push(entry),
         None => Ok(()),
@@ -199,7 +268,9 @@ pub fn entries(
     links: &Links,
     numbers: &Numbers,
     names: &TextList,
-) -> Result<List<FuncId>, Memory> {
+) -> Result<List<FuncId>, Memory>
+    ensures { IfOk result (λ entries. entries ≡ spec.entries links.now numbers.now names.now) }
+{
     let mut entries = List::new(alloc);
     for name in names.as_slice() {
         push_entry(&mut entries, entry_of(links, numbers, name.as_str()))?;
@@ -207,24 +278,26 @@ pub fn entries(
     Ok(entries)
 }
 
-// A file, with the nodes of its unit.
-fn file_entry(
-    alloc: Global,
-    file: &ProjectFile,
-    units: &[CheckedUnit],
-    number: u32,
-) -> Result<FileEntry, Memory> {
-    let name = copied_text(alloc, &file.name)?;
-    let component = file.component;
-    let (start, end) = match units.get(number as usize) {
+// The first node of the unit of this number, and the number after its last.
+fn bounds_of(units: &[CheckedUnit], number: u32) -> (u32, u32)
+    ensures { result ≡ spec.bounds_of units.now number }
+{
+    match units.get(number as usize) {
         Some(unit) => (unit.start, unit.end),
         None => (0, 0),
-    };
+    }
+}
+
+// A file, with the nodes of its unit.
+fn file_entry(alloc: Global, file: &ProjectFile, bounds: (u32, u32)) -> Result<FileEntry, Memory>
+    ensures { IfOk result (λ entry. entry ≡ spec.file_entry file.now bounds) }
+{
+    let name = copied(alloc, file.name.as_str())?;
     Ok(FileEntry {
         name,
-        component,
-        start,
-        end,
+        component: file.component,
+        start: bounds.0,
+        end: bounds.1,
     })
 }
 
@@ -233,21 +306,27 @@ pub fn files(
     alloc: Global,
     files: &List<ProjectFile>,
     units: &[CheckedUnit],
-) -> Result<List<FileEntry>, Memory> {
+) -> Result<List<FileEntry>, Memory>
+    ensures { IfOk result (λ entries. entries ≡ spec.files units.now files.now) }
+{
     let mut entries = List::new(alloc);
     let mut number = 0;
     for file in files.as_slice() {
-        entries.push(file_entry(alloc, file, units, number)?)?;
+        let entry = file_entry(alloc, file, bounds_of(units, number))?;
+        entries.push(entry)?;
         number = next(number);
     }
     Ok(entries)
 }
 
 /// A copy of these texts.
-pub fn copied_texts(alloc: Global, texts: &TextList) -> Result<List<Text>, Memory> {
+pub fn copied_texts(alloc: Global, texts: &TextList) -> Result<List<Text>, Memory>
+    ensures { IfOk result (λ copy. copy ≡ texts.now) }
+{
     let mut copy = List::new(alloc);
     for text in texts.as_slice() {
-        copy.push(copied_text(alloc, text)?)?;
+        let text = copied(alloc, text.as_str())?;
+        copy.push(text)?;
     }
     Ok(copy)
 }

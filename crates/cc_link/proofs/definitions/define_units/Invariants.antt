@@ -1,6 +1,0 @@
-use Rattle.std.proofs.Common.{◌≡◌, drop}
-use Rattle.cc_link.specs.Definitions.{units_defined}
-use Rattle.cc_link.proofs.definitions.define_units.Given as goal
-
-abbrev pub invariant-loop-unit : goal.invariant-loop-unit
-invariant-loop-unit l = units_defined (drop l.unit-index l.units) l.table ≡ units_defined l.units l.initial.table

@@ -1,6 +1,0 @@
-use Rattle.std.proofs.Common.{◌≡◌, drop}
-use Rattle.cc_link.specs.Ends.{end_file}
-use Rattle.cc_link.proofs.ends.end_file.Given as goal
-
-abbrev pub invariant-loop-outer : goal.invariant-loop-outer
-invariant-loop-outer l = end_file l.types l.declared l.definitions l.file l.unit.structs (drop l.outer-index l.outer-items) l.so_far ≡ end_file l.types l.declared l.definitions l.file l.unit.structs l.unit.outers l.least

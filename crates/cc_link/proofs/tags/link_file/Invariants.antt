@@ -1,6 +1,0 @@
-use Rattle.std.proofs.Common.{◌≡◌, drop}
-use Rattle.cc_link.specs.Tags.{tag_file}
-use Rattle.cc_link.proofs.tags.link_file.Given as goal
-
-abbrev pub invariant-loop-completed : goal.invariant-loop-completed
-invariant-loop-completed l = tag_file l.file l.unit.structs (drop l.completed-index l.completed-items) (l.tags, l.so_far) ≡ tag_file l.file l.unit.structs l.unit.completed (l.initial.tags, l.least)

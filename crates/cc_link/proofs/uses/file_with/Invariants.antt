@@ -1,6 +1,0 @@
-use Rattle.std.proofs.Common.{◌≡◌, drop}
-use Rattle.cc_link.specs.Uses.{file_from, file_with as first_with}
-use Rattle.cc_link.proofs.uses.file_with.Given as goal
-
-abbrev pub invariant-loop-unit : goal.invariant-loop-unit
-invariant-loop-unit l = file_from l.file (drop l.unit-index l.units) l.node ≡ first_with l.units l.node

@@ -1,0 +1,11 @@
+pub mod Callable
+pub mod Definitions
+pub mod Ends
+pub mod External
+pub mod Faults
+pub mod Linked
+pub mod Standings
+pub mod Tags
+pub mod Typedefs
+pub mod Uses
+pub mod Wholes
