@@ -14,7 +14,7 @@ use Rattle.cc_symbols.specs.declared.symbols.Symbols.{Symbols}
 use Rattle.cc_judging.specs.Asking.{is_integer}
 use Rattle.cc_typing.specs.Noting.{offended}
 use Rattle.cc_typing.specs.Checks.{fit_checked}
-use Rattle.cc_constants.specs.Constants.{constant}
+use Rattle.cc_constants.specs.Values.{constant}
 use Rattle.cc_check_values.specs.Typed.{type_of, misshapen}
 use Rattle.cc_check_values.specs.Statics.{is_static_value}
 

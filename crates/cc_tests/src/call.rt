@@ -48,7 +48,7 @@ fn call_fault(program: &Program, call: &RawCall) -> Option<u8>
 
 /// The first of these calls that breaks a rule, counted from 0, and the rule.
 pub fn first_fault(program: &Program, mut calls: &[RawCall]) -> Option<(u32, u8)>
-    requires { length calls.entry.now ≤ 10000 }
+    requires { length calls.now ≤ 10000 }
     ensures { result ≡ spec.first_fault program.now 0 calls.entry.now }
 {
     let mut number = 0;
