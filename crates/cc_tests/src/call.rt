@@ -8,15 +8,18 @@ use cc_program::{FuncId, Program, VarId};
 use cc_project::{RawCall, RawTest};
 
 // Whether each of the arguments is in the range of its formal.
-fn are_in_range(program: &Program, mut formals: &[VarId], mut args: &[i64]) -> bool
-    ensures { result ≡ spec.are_in_range program.now formals.entry.now args.entry.now }
+fn are_in_range(program: &Program, formals: &[VarId], args: &[i64]) -> bool
+    ensures { result ≡ spec.are_in_range program.now formals.now args.now }
 {
-    while let ([formal, other_formals @ ..], [number, other_args @ ..]) = (formals, args) {
+    let mut others = formals;
+    for number in args {
+        let [formal, rest @ ..] = others else {
+            return true;
+        };
         if !is_in_range(program, *formal, *number) {
             return false;
         }
-        formals = other_formals;
-        args = other_args;
+        others = rest;
     }
     true
 }
