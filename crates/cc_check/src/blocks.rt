@@ -1,7 +1,4 @@
 // Declarators in blocks.
-ghost use Rattle.std.specs.Prelude.{◌≡◌, option_map, IfOk, OnOk};
-ghost use Rattle.cc_tree.specs.Views.{view_init, view_value};
-ghost use Rattle.cc_check.specs.Inners as spec;
 
 use crate::storage::{Judged, Region, check_object, form, judged_declarator, word_of};
 use crate::values::{check_given, completed_type, given, lacks_length};
@@ -20,9 +17,7 @@ fn inner_declared<'a>(
     note: Counted,
     form: Form,
     kind: Option<TypeId>,
-) -> Declared
-    ensures { result ≡ spec.inner_declared note form kind checker.now }
-{
+) -> Declared {
     Declared {
         form,
         linkage: Linkage::Without,
@@ -34,17 +29,13 @@ fn inner_declared<'a>(
 }
 
 // C24 of a function in a block.
-fn check_function<'a>(checker: &mut Checker<'a>, note: Counted, form: Form, formed: Formed)
-    ensures { checker.new ≡ spec.function_checked note form formed checker.old }
-{
+fn check_function<'a>(checker: &mut Checker<'a>, note: Counted, form: Form, formed: Formed) {
     let is_broken = formed.is_judged && matches!(form, Form::Function);
     checker.offend_if(is_broken, note, rule::STORAGE_CLASS);
 }
 
 // Completes the type of what is declared.
-fn complete<'a>(checker: &mut Checker<'a>, note: Counted, number: u32, kind: Option<TypeId>)
-    ensures { checker.new ≡ spec.completed note number kind checker.old }
-{
+fn complete<'a>(checker: &mut Checker<'a>, note: Counted, number: u32, kind: Option<TypeId>) {
     match kind {
         Some(kind) => checker.retype(note, number, kind),
         None => {}
@@ -60,10 +51,7 @@ fn finish<'a>(
     formed: Formed,
     may_lack_length: bool,
     v: &Option<Value<Counted>>,
-) -> Result<(), Memory>
-    ensures { OnOk result (checker.new
-        ≡ spec.finished note number form formed may_lack_length (option_map view_value v.now) checker.old) }
-{
+) -> Result<(), Memory> {
     let kind = completed_type(checker, form, formed.kind, v)?;
     let is_judged = formed.is_judged;
     complete(checker, note, number, kind);
@@ -86,10 +74,7 @@ fn begin<'a>(
     form: Form,
     formed: Formed,
     v: &'a Option<Value<Counted>>,
-) -> Result<(u32, bool), Memory>
-    ensures { IfOk result (λ r. (checker.new, r)
-        ≡ spec.begun named.entry.note named.entry.name.now form formed (option_map view_value v.now) checker.old) }
-{
+) -> Result<(u32, bool), Memory> {
     let what = inner_declared(checker, named.note, form, formed.kind);
     let number = checker.declare(alloc, named, formed.is_judged, what)?;
     check_function(checker, named.note, form, formed);
@@ -107,10 +92,7 @@ fn inner_named<'a>(
     formed: Formed,
     may_lack_length: bool,
     v: &'a Option<Value<Counted>>,
-) -> Result<Judged, Memory>
-    ensures { IfOk result (λ r. (checker.new, r)
-        ≡ spec.inner_named named.entry.note named.entry.name.now form formed may_lack_length (option_map view_value v.now) checker.old) }
-{
+) -> Result<Judged, Memory> {
     let (number, is_typed) = begin(alloc, checker, named, form, formed, v)?;
     finish(
         checker,
@@ -132,9 +114,7 @@ pub fn inner_init<'a>(
     region: Region,
     said: Specified,
     i: &'a Init<Counted>,
-) -> Result<Judged, Memory>
-    ensures { IfOk result (λ r. (checker.new, r) ≡ spec.inner_init region said (view_init i.now) checker.old) }
-{
+) -> Result<Judged, Memory> {
     let is_given = i.value.is_some();
     let formed = declarator(alloc, checker, said.kind, is_given, &i.declarator)?;
     let form = form(region, word_of(said), checker.shape_of(formed.kind));

@@ -1,7 +1,4 @@
 // Declarations.
-ghost use Rattle.std.specs.Prelude.{◌≡◌, map, IfOk};
-ghost use Rattle.cc_tree.specs.Views.{view_init, view_declaration};
-ghost use Rattle.cc_check.specs.Declarations as spec;
 
 use crate::blocks::inner_init;
 use crate::outer::outer_init;
@@ -20,9 +17,7 @@ fn init<'a>(
     region: Region,
     said: Specified,
     i: &'a Init<Counted>,
-) -> Result<Judged, Memory>
-    ensures { IfOk result (λ r. (checker.new, r) ≡ spec.init_walked region said (view_init i.now) checker.old) }
-{
+) -> Result<Judged, Memory> {
     match region {
         Region::File => outer_init(alloc, checker, said, i),
         Region::Block | Region::Clause => inner_init(alloc, checker, region, said, i),
@@ -37,10 +32,7 @@ fn inits<'a>(
     said: Specified,
     judged: Judged,
     is: &'a [Init<Counted>],
-) -> Result<Judged, Memory>
-    ensures { IfOk result (λ r. (checker.new, r)
-        ≡ spec.inits_walked region said (map view_init is.now) judged checker.old) }
-{
+) -> Result<Judged, Memory> {
     let mut judged = judged;
     for i in is {
         let one = init(alloc, checker, region, said, i)?;
@@ -55,9 +47,7 @@ pub fn declaration<'a>(
     checker: &mut Checker<'a>,
     region: Region,
     d: &'a Declaration<Counted>,
-) -> Result<bool, Memory>
-    ensures { IfOk result (λ r. (checker.new, r) ≡ spec.declaration_walked region (view_declaration d.now) checker.old) }
-{
+) -> Result<bool, Memory> {
     let said = specifiers(alloc, checker, setting(region), d.note, d.specs.as_slice())?;
     check_storage(checker, region, said.storage, d.inits.as_slice());
     let judged = judged_specifiers(said, d.inits.as_slice());

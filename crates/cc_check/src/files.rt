@@ -1,7 +1,4 @@
 // Files.
-ghost use Rattle.std.specs.Prelude.{◌≡◌, OnOk};
-ghost use Rattle.cc_tree.specs.Views.{view_external, view_file};
-ghost use Rattle.cc_check.specs.Files as spec;
 
 use crate::functions::function;
 use crate::statements::{Walk, placed};
@@ -12,9 +9,11 @@ use cc_tree_notes::Counted;
 use std::alloc::Global;
 
 // What stands in a file.
-fn external<'a>(alloc: Global, walk: &mut Walk<'a>, x: &'a External<Counted>) -> Result<(), Memory>
-    ensures { OnOk result (walk.new ≡ spec.external_walked (view_external x.now) walk.old) }
-{
+fn external<'a>(
+    alloc: Global,
+    walk: &mut Walk<'a>,
+    x: &'a External<Counted>,
+) -> Result<(), Memory> {
     match x {
         External::Declaration(d) => placed(alloc, &mut walk.checker, Region::File, d),
         External::Function(f) => function(alloc, walk, f),
@@ -26,9 +25,7 @@ pub fn walk_file<'a>(
     alloc: Global,
     walk: &mut Walk<'a>,
     file: &'a FileTree<Counted>,
-) -> Result<(), Memory>
-    ensures { OnOk result (walk.new ≡ spec.file_walked (view_file file.now) walk.old) }
-{
+) -> Result<(), Memory> {
     for x in file.externals.as_slice() {
         external(alloc, walk, x)?;
     }

@@ -1,6 +1,4 @@
 // The linkage of names of a file, and when they may be declared again.
-ghost use Rattle.std.specs.Prelude.{◌≡◌};
-ghost use Rattle.cc_check.specs.Linkages as spec;
 
 use cc_symbols::{Declared, Form, Linkage, Role};
 use cc_tree::SpecWord;
@@ -8,9 +6,7 @@ use cc_types::{TypeId, TypeTable};
 
 /// The linkage that a declaration outside of functions gives the name of an object or a function (C17 6.2.2), by its
 /// storage class, and the linkage that the name has by an earlier one.
-pub fn linkage(storage: Option<SpecWord>, form: Form, earlier: Option<Linkage>) -> Linkage
-    ensures { result ≡ spec.linkage storage form earlier }
-{
+pub fn linkage(storage: Option<SpecWord>, form: Form, earlier: Option<Linkage>) -> Linkage {
     match (storage, form) {
         (Some(SpecWord::Static), _) => Linkage::Internal,
         (Some(SpecWord::Extern), _) | (_, Form::Function) => kept_linkage(earlier),
@@ -19,9 +15,7 @@ pub fn linkage(storage: Option<SpecWord>, form: Form, earlier: Option<Linkage>) 
 }
 
 // The linkage of an earlier declaration, else external.
-fn kept_linkage(earlier: Option<Linkage>) -> Linkage
-    ensures { result ≡ spec.kept_linkage earlier }
-{
+fn kept_linkage(earlier: Option<Linkage>) -> Linkage {
     match earlier {
         Some(Linkage::Internal) => Linkage::Internal,
         _ => Linkage::External,
@@ -29,9 +23,7 @@ fn kept_linkage(earlier: Option<Linkage>) -> Linkage
 }
 
 /// What a declarator outside of functions does for the name of an object or a function (C17 6.9.2).
-pub fn role(storage: Option<SpecWord>, form: Form, is_given: bool) -> Role
-    ensures { result ≡ spec.role storage form is_given }
-{
+pub fn role(storage: Option<SpecWord>, form: Form, is_given: bool) -> Role {
     if is_given {
         Role::Defines
     } else {
@@ -40,9 +32,7 @@ pub fn role(storage: Option<SpecWord>, form: Form, is_given: bool) -> Role
 }
 
 // What it does without a body and an initialiser.
-fn role_alone(storage: Option<SpecWord>, form: Form) -> Role
-    ensures { result ≡ spec.role_alone storage form }
-{
+fn role_alone(storage: Option<SpecWord>, form: Form) -> Role {
     match (storage, form) {
         (Some(SpecWord::Extern), _) | (_, Form::Function) => Role::Declares,
         _ => Role::Tentative,
@@ -50,9 +40,7 @@ fn role_alone(storage: Option<SpecWord>, form: Form) -> Role
 }
 
 // Whether both are objects, or both functions.
-fn are_alike(a: Form, b: Form) -> bool
-    ensures { result ≡ spec.are_alike a b }
-{
+fn are_alike(a: Form, b: Form) -> bool {
     matches!(
         (a, b),
         (Form::Object(_), Form::Object(_)) | (Form::Function, Form::Function)
@@ -60,9 +48,7 @@ fn are_alike(a: Form, b: Form) -> bool
 }
 
 // Whether two linkages are the same.
-fn have_one_linkage(a: Linkage, b: Linkage) -> bool
-    ensures { result ≡ spec.have_one_linkage a b }
-{
+fn have_one_linkage(a: Linkage, b: Linkage) -> bool {
     matches!(
         (a, b),
         (Linkage::External, Linkage::External)
@@ -72,9 +58,7 @@ fn have_one_linkage(a: Linkage, b: Linkage) -> bool
 }
 
 // Whether declarations of one name may have these types.
-fn agree(types: &TypeTable, a: Option<TypeId>, b: Option<TypeId>) -> bool
-    ensures { result ≡ spec.agree types.now a b }
-{
+fn agree(types: &TypeTable, a: Option<TypeId>, b: Option<TypeId>) -> bool {
     match (a, b) {
         (Some(a), Some(b)) => types.compatible(a, b),
         _ => false,
@@ -82,9 +66,7 @@ fn agree(types: &TypeTable, a: Option<TypeId>, b: Option<TypeId>) -> bool
 }
 
 /// The type of what declarations of these types declare.
-pub fn composed(types: &TypeTable, a: Option<TypeId>, b: Option<TypeId>) -> Option<TypeId>
-    ensures { result ≡ spec.composed types.now a b }
-{
+pub fn composed(types: &TypeTable, a: Option<TypeId>, b: Option<TypeId>) -> Option<TypeId> {
     match (a, b) {
         (Some(a), Some(b)) => Some(types.composed(a, b)),
         (Some(a), None) => Some(a),
@@ -94,9 +76,7 @@ pub fn composed(types: &TypeTable, a: Option<TypeId>, b: Option<TypeId>) -> Opti
 
 /// Whether a name outside of functions may be declared again so (C18): an object or a function of the same kind, linkage and
 /// type, with one body or initialiser at most.
-pub fn may_repeat(types: &TypeTable, earlier: Declared, later: Declared) -> bool
-    ensures { result ≡ spec.may_repeat types.now earlier later }
-{
+pub fn may_repeat(types: &TypeTable, earlier: Declared, later: Declared) -> bool {
     are_alike(earlier.form, later.form)
         && have_one_linkage(earlier.linkage, later.linkage)
         && agree(types, earlier.kind, later.kind)

@@ -1,7 +1,4 @@
 // Statements.
-ghost use Rattle.std.specs.Prelude.{◌≡◌, option_map, IfOk, OnOk};
-ghost use Rattle.cc_tree.specs.Views.{view, view_start, view_declaration, view_stmt, view_block, view_item, items_of};
-ghost use Rattle.cc_check.specs.Statements as spec;
 
 use crate::declarations::declaration;
 use crate::labels::Labels;
@@ -38,9 +35,7 @@ fn condition<'a>(
     alloc: Global,
     checker: &mut Checker<'a>,
     e: &'a Expr<Counted>,
-) -> Result<(), Memory>
-    ensures { OnOk result (checker.new ≡ spec.condition_walked (view e.now) checker.old) }
-{
+) -> Result<(), Memory> {
     let kind = expression(alloc, checker, e)?;
     check_scalar(&checker.symbols, &mut checker.found, e, kind);
     Ok(())
@@ -51,9 +46,7 @@ fn maybe_condition<'a>(
     alloc: Global,
     checker: &mut Checker<'a>,
     e: &'a Option<Expr<Counted>>,
-) -> Result<(), Memory>
-    ensures { OnOk result (checker.new ≡ spec.maybe_condition (option_map view e.now) checker.old) }
-{
+) -> Result<(), Memory> {
     match e {
         Some(e) => condition(alloc, checker, e),
         None => Ok(()),
@@ -61,9 +54,7 @@ fn maybe_condition<'a>(
 }
 
 // An expression whose type isn't asked.
-fn plain<'a>(alloc: Global, checker: &mut Checker<'a>, e: &'a Expr<Counted>) -> Result<(), Memory>
-    ensures { OnOk result (checker.new ≡ spec.plain_walked (view e.now) checker.old) }
-{
+fn plain<'a>(alloc: Global, checker: &mut Checker<'a>, e: &'a Expr<Counted>) -> Result<(), Memory> {
     expression(alloc, checker, e)?;
     Ok(())
 }
@@ -73,9 +64,7 @@ fn maybe_plain<'a>(
     alloc: Global,
     checker: &mut Checker<'a>,
     e: &'a Option<Expr<Counted>>,
-) -> Result<(), Memory>
-    ensures { OnOk result (checker.new ≡ spec.maybe_plain (option_map view e.now) checker.old) }
-{
+) -> Result<(), Memory> {
     match e {
         Some(e) => plain(alloc, checker, e),
         None => Ok(()),
@@ -88,9 +77,7 @@ pub fn placed<'a>(
     checker: &mut Checker<'a>,
     region: Region,
     d: &'a Declaration<Counted>,
-) -> Result<(), Memory>
-    ensures { OnOk result (checker.new ≡ spec.placed region (view_declaration d.now) checker.old) }
-{
+) -> Result<(), Memory> {
     declaration(alloc, checker, region, d)?;
     Ok(())
 }
@@ -100,9 +87,7 @@ fn misplaced<'a>(
     alloc: Global,
     checker: &mut Checker<'a>,
     d: &'a Declaration<Counted>,
-) -> Result<(), Memory>
-    ensures { OnOk result (checker.new ≡ spec.misplaced (view_declaration d.now) checker.old) }
-{
+) -> Result<(), Memory> {
     let is_typed = declaration(alloc, checker, Region::Block, d)?;
     checker.offend_if(is_typed, d.note, rule::LABEL_PLACE);
     Ok(())
@@ -113,9 +98,7 @@ fn start<'a>(
     alloc: Global,
     checker: &mut Checker<'a>,
     s: &'a ForStart<Counted>,
-) -> Result<(), Memory>
-    ensures { OnOk result (checker.new ≡ spec.start_walked (view_start s.now) checker.old) }
-{
+) -> Result<(), Memory> {
     match s {
         ForStart::Decl(d) => placed(alloc, checker, Region::Clause, d),
         ForStart::Expr(e) => plain(alloc, checker, e),
@@ -123,9 +106,7 @@ fn start<'a>(
     }
 }
 
-fn is_void(shape: Shape) -> bool
-    ensures { result ≡ spec.is_void shape }
-{
+fn is_void(shape: Shape) -> bool {
     matches!(shape, Shape::Void(_))
 }
 
@@ -136,9 +117,7 @@ fn check_value<'a>(
     n: Counted,
     e: &Expr<Counted>,
     kind: Option<ExprType>,
-)
-    ensures { checker.new ≡ spec.value_returned target n (view e.now) kind checker.old }
-{
+) {
     if is_void(target) {
         checker.offend_if(kind.is_some(), n, rule::RETURN_VALUE);
     } else {
@@ -154,9 +133,7 @@ fn check_returned<'a>(
     n: Counted,
     e: &Expr<Counted>,
     kind: Option<ExprType>,
-)
-    ensures { checker.new ≡ spec.returned_checked returned n (view e.now) kind checker.old }
-{
+) {
     match checker.shape_of(returned) {
         Some(target) => check_value(checker, target, n, e, kind),
         None => {}
@@ -164,9 +141,7 @@ fn check_returned<'a>(
 }
 
 // C31 of a `return` without a value.
-fn check_no_value<'a>(checker: &mut Checker<'a>, returned: Option<TypeId>, n: Counted)
-    ensures { checker.new ≡ spec.no_value_checked returned n checker.old }
-{
+fn check_no_value<'a>(checker: &mut Checker<'a>, returned: Option<TypeId>, n: Counted) {
     match checker.shape_of(returned) {
         Some(target) => checker.offend_if(!is_void(target), n, rule::RETURN_VALUE),
         None => {}
@@ -180,9 +155,7 @@ fn returning<'a>(
     returned: Option<TypeId>,
     n: Counted,
     e: &'a Expr<Counted>,
-) -> Result<(), Memory>
-    ensures { OnOk result (checker.new ≡ spec.returning returned n (view e.now) checker.old) }
-{
+) -> Result<(), Memory> {
     let kind = expression(alloc, checker, e)?;
     check_returned(checker, returned, n, e, kind);
     Ok(())
@@ -195,9 +168,7 @@ fn leaving<'a>(
     returned: Option<TypeId>,
     n: Counted,
     e: &'a Option<Expr<Counted>>,
-) -> Result<(), Memory>
-    ensures { OnOk result (checker.new ≡ spec.leaving returned n (option_map view e.now) checker.old) }
-{
+) -> Result<(), Memory> {
     match e {
         Some(e) => returning(alloc, checker, returned, n, e),
         None => {
@@ -208,9 +179,7 @@ fn leaving<'a>(
 }
 
 // The promoted kind of what a switch asks.
-fn promoted<'a>(checker: &Checker<'a>, kind: Option<ExprType>) -> Option<IntKind>
-    ensures { result ≡ spec.promoted checker.now.symbols.types kind }
-{
+fn promoted<'a>(checker: &Checker<'a>, kind: Option<ExprType>) -> Option<IntKind> {
     match kind {
         Some(kind) => checker.symbols.types.promoted_kind(kind),
         None => None,
@@ -223,9 +192,7 @@ fn asked<'a>(
     checker: &mut Checker<'a>,
     n: Counted,
     e: &'a Expr<Counted>,
-) -> Result<Labels, Memory>
-    ensures { IfOk result (λ l. (checker.new, l) ≡ spec.asked n (view e.now) checker.old) }
-{
+) -> Result<Labels, Memory> {
     let kind = expression(alloc, checker, e)?;
     check_integer(&checker.symbols, &mut checker.found, n.spot, kind);
     Ok(Labels::new(alloc, promoted(checker, kind)))
@@ -237,9 +204,7 @@ fn compared<'a>(
     labels: &mut Labels,
     n: Counted,
     value: i128,
-) -> Result<(), Memory>
-    ensures { OnOk result ((walk.new, labels.new) ≡ spec.compared n value (walk.old, labels.old)) }
-{
+) -> Result<(), Memory> {
     let is_new = labels.values.add(value)?;
     walk.checker.offend_if(!is_new, n, rule::NEW_LABEL);
     walk.cases.push(CaseValue {
@@ -254,9 +219,7 @@ fn labelled<'a>(
     labels: &mut Labels,
     n: Counted,
     value: ConstantValue,
-) -> Result<(), Memory>
-    ensures { OnOk result ((walk.new, labels.new) ≡ spec.labelled n value (walk.old, labels.old)) }
-{
+) -> Result<(), Memory> {
     match value {
         ConstantValue::Is(value) => compared(walk, labels, n, labels.converted(value)),
         _ => Ok(()),
@@ -270,9 +233,7 @@ fn case<'a>(
     labels: &mut Labels,
     n: Counted,
     e: &'a Expr<Counted>,
-) -> Result<(), Memory>
-    ensures { OnOk result ((walk.new, labels.new) ≡ spec.case_walked n (view e.now) (walk.old, labels.old)) }
-{
+) -> Result<(), Memory> {
     let value = constant_of(alloc, &mut walk.checker, e)?;
     labelled(walk, labels, n, value)
 }
@@ -282,17 +243,13 @@ fn stray_case<'a>(
     alloc: Global,
     checker: &mut Checker<'a>,
     e: &'a Expr<Counted>,
-) -> Result<(), Memory>
-    ensures { OnOk result (checker.new ≡ spec.stray_case (view e.now) checker.old) }
-{
+) -> Result<(), Memory> {
     constant_of(alloc, checker, e)?;
     Ok(())
 }
 
 // A `default` of a switch's own block: C30.
-fn default<'a>(walk: &mut Walk<'a>, labels: &mut Labels, n: Counted)
-    ensures { (walk.new, labels.new) ≡ spec.default_walked n (walk.old, labels.old) }
-{
+fn default<'a>(walk: &mut Walk<'a>, labels: &mut Labels, n: Counted) {
     let is_new = labels.add_default();
     walk.checker.offend_if(!is_new, n, rule::NEW_LABEL);
 }
@@ -304,9 +261,7 @@ pub fn stmt<'a>(
     walk: &mut Walk<'a>,
     returned: Option<TypeId>,
     s: &'a Stmt<Counted>,
-) -> Result<(), Memory>
-    ensures { OnOk result (walk.new ≡ spec.stmt_walked returned (view_stmt s.now) walk.old) }
-{
+) -> Result<(), Memory> {
     match s {
         Stmt::Block(b) => block(alloc, walk, returned, b),
         Stmt::Plain(_, e) => plain(alloc, &mut walk.checker, e),
@@ -352,9 +307,7 @@ fn block<'a>(
     walk: &mut Walk<'a>,
     returned: Option<TypeId>,
     b: &'a Block<Counted>,
-) -> Result<(), Memory>
-    ensures { OnOk result (walk.new ≡ spec.block_walked returned (view_block b.now) walk.old) }
-{
+) -> Result<(), Memory> {
     walk.checker.enter()?;
     items(alloc, walk, returned, b.items.as_slice())?;
     walk.checker.leave();
@@ -368,9 +321,7 @@ fn items<'a>(
     walk: &mut Walk<'a>,
     returned: Option<TypeId>,
     is: &'a [Item<Counted>],
-) -> Result<(), Memory>
-    ensures { OnOk result (walk.new ≡ spec.items_walked returned (items_of is.now) walk.old) }
-{
+) -> Result<(), Memory> {
     for i in is {
         item(alloc, walk, returned, i)?;
     }
@@ -383,9 +334,7 @@ pub fn body<'a>(
     walk: &mut Walk<'a>,
     returned: Option<TypeId>,
     b: &'a Block<Counted>,
-) -> Result<(), Memory>
-    ensures { OnOk result (walk.new ≡ spec.inside returned (view_block b.now) walk.old) }
-{
+) -> Result<(), Memory> {
     items(alloc, walk, returned, b.items.as_slice())
 }
 
@@ -395,9 +344,7 @@ fn item<'a>(
     walk: &mut Walk<'a>,
     returned: Option<TypeId>,
     i: &'a Item<Counted>,
-) -> Result<(), Memory>
-    ensures { OnOk result (walk.new ≡ spec.item_walked returned (view_item i.now) walk.old) }
-{
+) -> Result<(), Memory> {
     match i {
         Item::Decl(d) => placed(alloc, &mut walk.checker, Region::Block, d),
         Item::Case(_, e) => stray_case(alloc, &mut walk.checker, e),
@@ -414,9 +361,7 @@ fn switch_block<'a>(
     returned: Option<TypeId>,
     labels: &mut Labels,
     b: &'a Block<Counted>,
-) -> Result<(), Memory>
-    ensures { OnOk result (walk.new ≡ spec.switch_walked returned (view_block b.now) walk.old labels.old) }
-{
+) -> Result<(), Memory> {
     walk.checker.enter()?;
     switch_items(alloc, walk, returned, labels, b.items.as_slice())?;
     walk.checker.leave();
@@ -430,10 +375,7 @@ fn switch_items<'a>(
     returned: Option<TypeId>,
     labels: &mut Labels,
     is: &'a [Item<Counted>],
-) -> Result<(), Memory>
-    ensures { OnOk result ((walk.new, labels.new)
-        ≡ spec.switch_items returned (items_of is.now) (walk.old, labels.old)) }
-{
+) -> Result<(), Memory> {
     for i in is {
         switch_item(alloc, walk, returned, labels, i)?;
     }
@@ -447,10 +389,7 @@ fn switch_item<'a>(
     returned: Option<TypeId>,
     labels: &mut Labels,
     i: &'a Item<Counted>,
-) -> Result<(), Memory>
-    ensures { OnOk result ((walk.new, labels.new)
-        ≡ spec.switch_item returned (view_item i.now) (walk.old, labels.old)) }
-{
+) -> Result<(), Memory> {
     match i {
         Item::Decl(d) => misplaced(alloc, &mut walk.checker, d),
         Item::Case(n, e) => case(alloc, walk, labels, *n, e),

@@ -1,8 +1,4 @@
 // Initialisers of scalars.
-ghost use Rattle.std.specs.Prelude.{◌≡◌};
-ghost use Rattle.cc_tree.specs.Views.{view, view_value, values_of};
-ghost use Rattle.cc_check_values.specs.Typed.{type_of};
-ghost use Rattle.cc_check_values.specs.Scalars as spec;
 
 use crate::statics::is_static_value;
 use crate::typed::{misshapen, type_of};
@@ -15,18 +11,14 @@ use cc_types::{ExprType, Shape};
 use cc_typing::{check_fit, offend};
 
 // C26 at the initialiser of a static scalar that is none of the six forms.
-fn check_form(symbols: &Symbols, found: &mut Findings, e: &Expr<Counted>)
-    ensures { found.new ≡ spec.form_checked symbols.now (view e.now) found.old }
-{
+fn check_form(symbols: &Symbols, found: &mut Findings, e: &Expr<Counted>) {
     if !is_static_value(symbols, found, e) {
         offend(found, expr_note(e).spot, rule::STATIC_INITIALISER);
     }
 }
 
 // C27 at the initialiser of a static integer that is no constant with a value.
-fn check_constant(symbols: &Symbols, found: &mut Findings, target: Shape, e: &Expr<Counted>)
-    ensures { found.new ≡ spec.constant_checked symbols.now target (view e.now) found.old }
-{
+fn check_constant(symbols: &Symbols, found: &mut Findings, target: Shape, e: &Expr<Counted>) {
     if symbols.types.is_integer(ExprType::Plain(target)) && constant(symbols, found, e).is_none() {
         offend(found, expr_note(e).spot, rule::CONSTANT);
     }
@@ -39,9 +31,7 @@ fn check_static(
     life: Life,
     target: Shape,
     e: &Expr<Counted>,
-)
-    ensures { found.new ≡ spec.static_checked symbols.now life target (view e.now) found.old }
-{
+) {
     match life {
         Life::Static => {
             check_form(symbols, found, e);
@@ -59,9 +49,7 @@ fn check_typed(
     target: Shape,
     e: &Expr<Counted>,
     kind: Option<ExprType>,
-)
-    ensures { found.new ≡ spec.typed_checked symbols.now life target (view e.now) kind found.old }
-{
+) {
     match kind {
         Some(kind) => {
             check_static(symbols, found, life, target, e);
@@ -78,9 +66,7 @@ pub(crate) fn check_scalar(
     life: Life,
     target: Shape,
     e: &Expr<Counted>,
-)
-    ensures { found.new ≡ spec.typed_checked symbols.now life target (view e.now) (type_of found.old (view e.now)) found.old }
-{
+) {
     let kind = type_of(found, e);
     check_typed(symbols, found, life, target, e, kind);
 }
@@ -93,9 +79,7 @@ pub(crate) fn check_lone(
     target: Shape,
     v: &Value<Counted>,
     vs: &[Value<Counted>],
-)
-    ensures { found.new ≡ spec.lone_checked symbols.now life target (view_value v.now) (spec.lone_part (values_of vs.now)) found.old }
-{
+) {
     match vs {
         [Value::Expr(e)] => check_scalar(symbols, found, life, target, e),
         _ => misshapen(found, v),

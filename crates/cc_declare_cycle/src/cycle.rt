@@ -1,13 +1,11 @@
 // Specifiers, declarators, members, enumeration constants, type names and expressions: each may lead to each of the others.
-ghost use Rattle.std.specs.Prelude.{◌≡◌, true, pos, IfOk, OnOk};
-ghost use Rattle.cc_tree.specs.Views.{view, exprs_of, option_of, view_declarator, declarators_of, view_type, types_of, view_spec, specs_of, view_member, members_of, view_constant, constants_of};
-ghost use Rattle.cc_declare.specs.Members.{no_fields};
-ghost use Rattle.cc_declare.specs.Specifying.{nothing_said};
-ghost use Rattle.cc_declare_cycle.specs.Declaring as spec;
 
 use crate::values::{judged, valued};
 use cc_base::Memory;
-use cc_declare::{Checker, ConstantValue, Fields, Formed, Named, Said, Setting, Shaped, Specified, is_lone_unnamed, is_nearest, name_of, note_of};
+use cc_declare::{
+    Checker, ConstantValue, Fields, Formed, Named, Said, Setting, Shaped, Specified,
+    is_lone_unnamed, is_nearest, name_of, note_of,
+};
 use cc_symbols::Slots;
 use cc_tree::{Constant, Declarator, Expr, Member, Spec, StructId, TypeName};
 use cc_tree_notes::Counted;
@@ -28,9 +26,7 @@ pub fn declarator<'a>(
     base: Option<TypeId>,
     may_lack_length: bool,
     d: &'a Declarator<Counted>,
-) -> Result<Formed, Memory>
-    ensures { IfOk result (λ r. (checker.new, r) ≡ spec.declarator base may_lack_length (view_declarator d.now) checker.old) }
-{
+) -> Result<Formed, Memory> {
     let made = shaped(alloc, checker, Shaped::based(base), may_lack_length, d)?;
     checker.formed(note_of(d), made)
 }
@@ -43,9 +39,7 @@ fn shaped<'a>(
     base: Shaped,
     may_lack_length: bool,
     d: &'a Declarator<Counted>,
-) -> Result<Shaped, Memory>
-    ensures { IfOk result (λ r. (checker.new, r) ≡ spec.shaped (view_declarator d.now) may_lack_length base checker.old) }
-{
+) -> Result<Shaped, Memory> {
     match d {
         Declarator::Name(_, _) => Ok(base),
         Declarator::Nameless => Ok(base),
@@ -75,9 +69,7 @@ fn sized<'a>(
     e: &'a Option<Boxed<Expr<Counted>>>,
     may_lack: bool,
     base: Shaped,
-) -> Result<Shaped, Memory>
-    ensures { IfOk result (λ r. (checker.new, r) ≡ spec.sized note (option_of e.now) may_lack base checker.old) }
-{
+) -> Result<Shaped, Memory> {
     let length = optional_constant(alloc, checker, e)?;
     checker.array(note, length, may_lack, base)
 }
@@ -90,9 +82,7 @@ fn called<'a>(
     note: Counted,
     ps: &'a [TypeName<Counted>],
     base: Shaped,
-) -> Result<Shaped, Memory>
-    ensures { IfOk result (λ r. (checker.new, r) ≡ spec.called note (types_of ps.now) base checker.old) }
-{
+) -> Result<Shaped, Memory> {
     let kinds = prototype(alloc, checker, ps)?;
     let kinds = checker.listed(alloc, is_lone_unnamed(ps), kinds);
     checker.function(note, kinds, base)
@@ -104,9 +94,7 @@ fn prototype<'a>(
     alloc: Global,
     checker: &mut Checker<'a>,
     ps: &'a [TypeName<Counted>],
-) -> Result<Slots<Option<TypeId>>, Memory>
-    ensures { IfOk result (λ r. (checker.new, r) ≡ spec.prototype (types_of ps.now) checker.old) }
-{
+) -> Result<Slots<Option<TypeId>>, Memory> {
     checker.enter()?;
     let kinds = parameters(alloc, checker, ps)?;
     checker.leave();
@@ -119,9 +107,7 @@ fn parameters<'a>(
     alloc: Global,
     checker: &mut Checker<'a>,
     ps: &'a [TypeName<Counted>],
-) -> Result<Slots<Option<TypeId>>, Memory>
-    ensures { IfOk result (λ r. (checker.new, r) ≡ spec.parameters (types_of ps.now) checker.old) }
-{
+) -> Result<Slots<Option<TypeId>>, Memory> {
     let mut kinds = Slots::new(alloc);
     for p in ps {
         let kind = parameter(alloc, checker, p)?;
@@ -136,10 +122,14 @@ fn parameter<'a>(
     alloc: Global,
     checker: &mut Checker<'a>,
     p: &'a TypeName<Counted>,
-) -> Result<Option<TypeId>, Memory>
-    ensures { IfOk result (λ r. (checker.new, r) ≡ spec.parameter (view_type p.now) checker.old) }
-{
-    let said = specifiers(alloc, checker, Setting::Parameter, p.note, p.specs.as_slice())?;
+) -> Result<Option<TypeId>, Memory> {
+    let said = specifiers(
+        alloc,
+        checker,
+        Setting::Parameter,
+        p.note,
+        p.specs.as_slice(),
+    )?;
     let formed = declarator(alloc, checker, said.kind, true, &p.declarator)?;
     checker.parameter(alloc, p.note, said, name_of(&p.declarator), formed)
 }
@@ -151,18 +141,26 @@ fn type_name<'a>(
     checker: &mut Checker<'a>,
     is_before_zero: bool,
     t: &'a TypeName<Counted>,
-) -> Result<(), Memory>
-    ensures { OnOk result (checker.new ≡ spec.type_named is_before_zero (view_type t.now) checker.old) }
-{
-    let said = specifiers(alloc, checker, Setting::TypeName, t.note, t.specs.as_slice())?;
-    let made = shaped(alloc, checker, Shaped::based(said.kind), false, &t.declarator)?;
+) -> Result<(), Memory> {
+    let said = specifiers(
+        alloc,
+        checker,
+        Setting::TypeName,
+        t.note,
+        t.specs.as_slice(),
+    )?;
+    let made = shaped(
+        alloc,
+        checker,
+        Shaped::based(said.kind),
+        false,
+        &t.declarator,
+    )?;
     checker.type_name(t.note, note_of(&t.declarator), is_before_zero, made)
 }
 
 // The note of the first specifier; of none, this one.
-fn first_note(note: Counted, specs: &[Spec<Counted>]) -> Counted
-    ensures { result ≡ spec.first_note note (specs_of specs.now) }
-{
+fn first_note(note: Counted, specs: &[Spec<Counted>]) -> Counted {
     match specs {
         [first, ..] => *spec_note(first),
         [] => note,
@@ -178,9 +176,7 @@ pub fn specifiers<'a>(
     setting: Setting,
     note: Counted,
     specs: &'a [Spec<Counted>],
-) -> Result<Specified, Memory>
-    ensures { IfOk result (λ r. (checker.new, r) ≡ spec.specifiers setting note (specs_of specs.now) checker.old) }
-{
+) -> Result<Specified, Memory> {
     let said = all_said(alloc, checker, specs)?;
     checker.specified(setting, first_note(note, specs), said)
 }
@@ -191,9 +187,7 @@ fn all_said<'a>(
     alloc: Global,
     checker: &mut Checker<'a>,
     specs: &'a [Spec<Counted>],
-) -> Result<Said, Memory>
-    ensures { IfOk result (λ r. (checker.new, r) ≡ spec.said_all (specs_of specs.now) nothing_said checker.old) }
-{
+) -> Result<Said, Memory> {
     let mut said = Said::nothing();
     for s in specs {
         said = said_one(alloc, checker, said, s)?;
@@ -208,9 +202,7 @@ fn said_one<'a>(
     checker: &mut Checker<'a>,
     said: Said,
     s: &'a Spec<Counted>,
-) -> Result<Said, Memory>
-    ensures { IfOk result (λ r. (checker.new, r) ≡ spec.said_one (view_spec s.now) said checker.old) }
-{
+) -> Result<Said, Memory> {
     match s {
         Spec::Word(n, w) => Ok(said.word(*n, *w)),
         Spec::Named(_, x) => Ok(checker.alias(said, x.as_str())),
@@ -231,18 +223,14 @@ fn said_one<'a>(
     }
 }
 
-fn has_members(ms: &[Member<Counted>]) -> bool
-    ensures { result ≡ spec.has_members (members_of ms.now) }
-{
+fn has_members(ms: &[Member<Counted>]) -> bool {
     match ms {
         [] => false,
         [_, ..] => true,
     }
 }
 
-fn has_constants(cs: &[Constant<Counted>]) -> bool
-    ensures { result ≡ spec.has_constants (constants_of cs.now) }
-{
+fn has_constants(cs: &[Constant<Counted>]) -> bool {
     match cs {
         [] => false,
         [_, ..] => true,
@@ -257,9 +245,7 @@ fn structure<'a>(
     note: Counted,
     id: Option<StructId>,
     ms: &'a [Member<Counted>],
-) -> Result<Option<StructId>, Memory>
-    ensures { IfOk result (λ r. (checker.new, r) ≡ spec.structure note id (members_of ms.now) checker.old) }
-{
+) -> Result<Option<StructId>, Memory> {
     if has_members(ms) {
         let fields = all_fields(alloc, checker, ms)?;
         checker.struct_with(alloc, note, id, fields)
@@ -274,9 +260,7 @@ fn all_fields<'a>(
     alloc: Global,
     checker: &mut Checker<'a>,
     ms: &'a [Member<Counted>],
-) -> Result<Fields, Memory>
-    ensures { IfOk result (λ r. (checker.new, r) ≡ spec.all_fields (members_of ms.now) checker.old) }
-{
+) -> Result<Fields, Memory> {
     checker.enter_members()?;
     let fields = members(alloc, checker, ms)?;
     checker.leave_members();
@@ -288,9 +272,7 @@ fn members<'a>(
     alloc: Global,
     checker: &mut Checker<'a>,
     ms: &'a [Member<Counted>],
-) -> Result<Fields, Memory>
-    ensures { IfOk result (λ r. (checker.new, r) ≡ spec.members (members_of ms.now) no_fields checker.old) }
-{
+) -> Result<Fields, Memory> {
     let mut fields = Fields::new(alloc);
     for m in ms {
         member(alloc, checker, &mut fields, m)?;
@@ -305,9 +287,7 @@ fn member<'a>(
     checker: &mut Checker<'a>,
     fields: &mut Fields,
     m: &'a Member<Counted>,
-) -> Result<(), Memory>
-    ensures { OnOk result ((checker.new, fields.new) ≡ spec.member (view_member m.now) fields.old checker.old) }
-{
+) -> Result<(), Memory> {
     let said = specifiers(alloc, checker, Setting::Member, m.note, m.specs.as_slice())?;
     let are_judged = fields_of(alloc, checker, fields, said.kind, m.declarators.as_slice())?;
     checker.plain_specifiers(m.note, said, are_judged);
@@ -322,10 +302,7 @@ fn fields_of<'a>(
     fields: &mut Fields,
     base: Option<TypeId>,
     ds: &'a [Declarator<Counted>],
-) -> Result<bool, Memory>
-    ensures { IfOk result (λ r. (checker.new, (fields.new, r))
-        ≡ spec.fields_of base (declarators_of ds.now) true fields.old checker.old) }
-{
+) -> Result<bool, Memory> {
     let mut are_judged = true;
     for d in ds {
         let is_judged = field(alloc, checker, fields, base, d)?;
@@ -342,10 +319,7 @@ fn field<'a>(
     fields: &mut Fields,
     base: Option<TypeId>,
     d: &'a Declarator<Counted>,
-) -> Result<bool, Memory>
-    ensures { IfOk result (λ r. (checker.new, (fields.new, r))
-        ≡ spec.field base (view_declarator d.now) fields.old checker.old) }
-{
+) -> Result<bool, Memory> {
     let formed = declarator(alloc, checker, base, false, d)?;
     checker.member(alloc, fields, name_of(d), formed)?;
     Ok(formed.is_judged)
@@ -357,9 +331,7 @@ fn constants<'a>(
     alloc: Global,
     checker: &mut Checker<'a>,
     cs: &'a [Constant<Counted>],
-) -> Result<(), Memory>
-    ensures { OnOk result (checker.new ≡ spec.constants (constants_of cs.now) (pos 0) checker.old) }
-{
+) -> Result<(), Memory> {
     let mut next = 0;
     for c in cs {
         next = enumerator(alloc, checker, next, c)?;
@@ -374,9 +346,7 @@ fn enumerator<'a>(
     checker: &mut Checker<'a>,
     next: i128,
     c: &'a Constant<Counted>,
-) -> Result<i128, Memory>
-    ensures { IfOk result (λ r. (checker.new, r) ≡ spec.enumerator (view_constant c.now) next checker.old) }
-{
+) -> Result<i128, Memory> {
     let value = optional_constant(alloc, checker, &c.value)?;
     let named = Named {
         note: c.note,
@@ -386,9 +356,7 @@ fn enumerator<'a>(
 }
 
 // Where a constant's value stands: its expression, or its name.
-fn place_of(note: Counted, e: &Option<Boxed<Expr<Counted>>>) -> Counted
-    ensures { result ≡ spec.place_of note (option_of e.now) }
-{
+fn place_of(note: Counted, e: &Option<Boxed<Expr<Counted>>>) -> Counted {
     match e {
         Some(e) => *expr_note(e.get()),
         None => note,
@@ -401,9 +369,7 @@ fn optional_constant<'a>(
     alloc: Global,
     checker: &mut Checker<'a>,
     e: &'a Option<Boxed<Expr<Counted>>>,
-) -> Result<ConstantValue, Memory>
-    ensures { IfOk result (λ r. (checker.new, r) ≡ spec.optional_constant (option_of e.now) checker.old) }
-{
+) -> Result<ConstantValue, Memory> {
     match e {
         Some(e) => constant_of(alloc, checker, e.get()),
         None => Ok(ConstantValue::Missing),
@@ -416,9 +382,7 @@ pub fn constant_of<'a>(
     alloc: Global,
     checker: &mut Checker<'a>,
     e: &'a Expr<Counted>,
-) -> Result<ConstantValue, Memory>
-    ensures { IfOk result (λ r. (checker.new, r) ≡ spec.constant_of (view e.now) checker.old) }
-{
+) -> Result<ConstantValue, Memory> {
     let kind = expression(alloc, checker, e)?;
     Ok(valued(checker, e, kind))
 }
@@ -429,22 +393,14 @@ pub fn expression<'a>(
     alloc: Global,
     checker: &mut Checker<'a>,
     e: &'a Expr<Counted>,
-) -> Result<Option<ExprType>, Memory>
-    ensures { IfOk result (λ r. (checker.new, r) ≡ spec.expression (view e.now) checker.old) }
-{
+) -> Result<Option<ExprType>, Memory> {
     named(alloc, checker, e)?;
     Ok(judged(checker, e))
 }
 
 // Takes down what the names in an expression name, and makes the types of its type names.
 #[cycle(declare)]
-fn named<'a>(
-    alloc: Global,
-    checker: &mut Checker<'a>,
-    e: &'a Expr<Counted>,
-) -> Result<(), Memory>
-    ensures { OnOk result (checker.new ≡ spec.named_in (view e.now) checker.old) }
-{
+fn named<'a>(alloc: Global, checker: &mut Checker<'a>, e: &'a Expr<Counted>) -> Result<(), Memory> {
     match e {
         Expr::Name(n, x) => {
             checker.name(*n, x.as_str());
@@ -496,9 +452,7 @@ fn all_named<'a>(
     alloc: Global,
     checker: &mut Checker<'a>,
     es: &'a [Expr<Counted>],
-) -> Result<(), Memory>
-    ensures { OnOk result (checker.new ≡ spec.all_named (exprs_of es.now) checker.old) }
-{
+) -> Result<(), Memory> {
     for e in es {
         named(alloc, checker, e)?;
     }
