@@ -7,7 +7,10 @@ ghost use Rattle.cc_declare_cycle.specs.Declaring as spec;
 
 use crate::values::{judged, valued};
 use cc_base::Memory;
-use cc_declare::{Checker, ConstantValue, Fields, Formed, Named, Said, Setting, Shaped, Specified, is_lone_unnamed, is_nearest, name_of, note_of};
+use cc_declare::{
+    Checker, ConstantValue, Fields, Formed, Named, Said, Setting, Shaped, Specified,
+    is_lone_unnamed, is_nearest, name_of, note_of,
+};
 use cc_symbols::Slots;
 use cc_tree::{Constant, Declarator, Expr, Member, Spec, StructId, TypeName};
 use cc_tree_notes::Counted;
@@ -163,7 +166,13 @@ fn parameter<'a>(
 ) -> Result<Option<TypeId>, Memory>
     ensures { IfOk result (λ r. (checker.new, r) ≡ spec.parameter (view_type p.now) checker.old) }
 {
-    let said = specifiers(alloc, checker, Setting::Parameter, p.note, p.specs.as_slice())?;
+    let said = specifiers(
+        alloc,
+        checker,
+        Setting::Parameter,
+        p.note,
+        p.specs.as_slice(),
+    )?;
     parameter_with(alloc, checker, p.note, said, &p.declarator)
 }
 
@@ -192,8 +201,21 @@ fn type_name<'a>(
 ) -> Result<(), Memory>
     ensures { OnOk result (checker.new ≡ spec.type_named is_before_zero (view_type t.now) checker.old) }
 {
-    let said = specifiers(alloc, checker, Setting::TypeName, t.note, t.specs.as_slice())?;
-    type_name_with(alloc, checker, is_before_zero, t.note, said.kind, &t.declarator)
+    let said = specifiers(
+        alloc,
+        checker,
+        Setting::TypeName,
+        t.note,
+        t.specs.as_slice(),
+    )?;
+    type_name_with(
+        alloc,
+        checker,
+        is_before_zero,
+        t.note,
+        said.kind,
+        &t.declarator,
+    )
 }
 
 // The same, by the type of its specifiers.
@@ -363,7 +385,14 @@ fn member<'a>(
     ensures { OnOk result ((checker.new, fields.new) ≡ spec.member (view_member m.now) fields.old checker.old) }
 {
     let said = specifiers(alloc, checker, Setting::Member, m.note, m.specs.as_slice())?;
-    member_with(alloc, checker, fields, m.note, said, m.declarators.as_slice())
+    member_with(
+        alloc,
+        checker,
+        fields,
+        m.note,
+        said,
+        m.declarators.as_slice(),
+    )
 }
 
 // The same, by what their specifiers say.
@@ -528,11 +557,7 @@ pub fn expression<'a>(
 
 // Takes down what the names in an expression name, and makes the types of its type names.
 #[cycle(declare)]
-fn named<'a>(
-    alloc: Global,
-    checker: &mut Checker<'a>,
-    e: &'a Expr<Counted>,
-) -> Result<(), Memory>
+fn named<'a>(alloc: Global, checker: &mut Checker<'a>, e: &'a Expr<Counted>) -> Result<(), Memory>
     ensures { OnOk result (checker.new ≡ spec.named_in (view e.now) checker.old) }
 {
     match e {
