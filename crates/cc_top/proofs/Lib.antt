@@ -1,4 +1,3 @@
-pub mod CheckFacts
 pub mod EndFacts
 pub mod Reached
 pub mod Sound
