@@ -1,4 +1,8 @@
 // The shape of initialisers.
+ghost use Rattle.std.specs.Prelude.{◌≡◌, is_some, slice_get};
+ghost use Rattle.cc_tree.specs.Views.{view, view_value, values_of};
+ghost use Rattle.cc_types.specs.Interning.{shape_of};
+ghost use Rattle.cc_check_values.specs.Shaping as spec;
 
 use crate::length::{is_character, string_length};
 use crate::scalar::{check_lone, check_scalar};
@@ -22,13 +26,32 @@ pub(crate) enum ListKind {
     Misfit,
 }
 
-// Whether these are one initialiser, the integer constant token of value 0.
-fn is_lone_zero(vs: &[Value<Counted>]) -> bool {
-    matches!(vs, [Value::Expr(Expr::Int(_, 0, _))])
+// Whether it is the integer constant token of value 0.
+fn is_zero_token(v: &Value<Counted>) -> bool
+    ensures { result ≡ spec.is_zero_token (view_value v.now) }
+{
+    match v {
+        Value::Expr(Expr::Int(_, value, _)) => *value == 0,
+        _ => false,
+    }
+}
+
+// Whether there is none but the first, which is the integer constant token of value 0.
+fn is_lone_zero(vs: &[Value<Counted>]) -> bool
+    ensures { result ≡ spec.is_lone_zero 0 (values_of vs.now) }
+{
+    for (number, v) in vs.iter().enumerate() {
+        if number > 0 || !is_zero_token(v) {
+            return false;
+        }
+    }
+    true
 }
 
 // Whether a string literal fits an array of this length, its final zero aside.
-fn fits_string(length: Option<u64>, parts: &[Bytes]) -> bool {
+fn fits_string(length: Option<u64>, parts: &[Bytes]) -> bool
+    ensures { result ≡ spec.fits_string length parts.now }
+{
     match length {
         Some(length) => string_length(parts) <= length,
         None => true,
@@ -36,7 +59,9 @@ fn fits_string(length: Option<u64>, parts: &[Bytes]) -> bool {
 }
 
 // Whether an array of this length has an element of this number.
-fn has_element(length: Option<u64>, number: usize) -> bool {
+fn has_element(length: Option<u64>, number: usize) -> bool
+    ensures { result ≡ spec.has_element length number }
+{
     match length {
         Some(length) => (number as u64) < length,
         None => true,
@@ -44,12 +69,16 @@ fn has_element(length: Option<u64>, number: usize) -> bool {
 }
 
 // Whether there is a member of this number.
-fn has_member(members: &[Member], number: usize) -> bool {
+fn has_member(members: &[Member], number: usize) -> bool
+    ensures { result ≡ is_some (slice_get members.now number) }
+{
     number < members.len()
 }
 
 // The type of the member of this number; void where there is none.
-fn member_kind(symbols: &Symbols, members: &[Member], number: usize) -> Shape {
+fn member_kind(symbols: &Symbols, members: &[Member], number: usize) -> Shape
+    ensures { result ≡ spec.kind_of_member symbols.now (slice_get members.now number) }
+{
     if number < members.len() {
         symbols.types.shape(members[number].kind)
     } else {
@@ -58,7 +87,9 @@ fn member_kind(symbols: &Symbols, members: &[Member], number: usize) -> Shape {
 }
 
 // Whether an array or struct has a part of this number.
-fn has_part(symbols: &Symbols, a: Shape, number: usize) -> bool {
+fn has_part(symbols: &Symbols, a: Shape, number: usize) -> bool
+    ensures { result ≡ spec.has_part symbols.now a number }
+{
     match a {
         Shape::Array(_, _, length) => has_element(length, number),
         Shape::Struct(_, id) => has_member(symbols.structs.members(id), number),
@@ -67,7 +98,9 @@ fn has_part(symbols: &Symbols, a: Shape, number: usize) -> bool {
 }
 
 // The type of that part; void where there is none.
-fn part_at(symbols: &Symbols, a: Shape, number: usize) -> Shape {
+fn part_at(symbols: &Symbols, a: Shape, number: usize) -> Shape
+    ensures { result ≡ spec.part_at symbols.now a number }
+{
     match a {
         Shape::Array(_, element, _) => symbols.types.shape(element),
         Shape::Struct(_, id) => member_kind(symbols, symbols.structs.members(id), number),
@@ -75,21 +108,29 @@ fn part_at(symbols: &Symbols, a: Shape, number: usize) -> Shape {
     }
 }
 
-fn is_scalar_shape(a: Shape) -> bool {
+fn is_scalar_shape(a: Shape) -> bool
+    ensures { result ≡ spec.is_scalar_shape a }
+{
     matches!(a, Shape::Integer(_, _) | Shape::Pointer(_, _))
 }
 
-fn has_parts(a: Shape) -> bool {
+fn has_parts(a: Shape) -> bool
+    ensures { result ≡ spec.has_parts a }
+{
     matches!(a, Shape::Array(_, _, _) | Shape::Struct(_, _))
 }
 
 // Whether these in braces are `{0}` over an array or struct whose first part is no scalar: it begins the first scalar by 0,
 // which fits every scalar.
-fn is_whole_zero(symbols: &Symbols, a: Shape, vs: &[Value<Counted>]) -> bool {
+fn is_whole_zero(symbols: &Symbols, a: Shape, vs: &[Value<Counted>]) -> bool
+    ensures { result ≡ spec.is_whole_zero symbols.now a (values_of vs.now) }
+{
     is_lone_zero(vs) && !is_scalar_shape(part_at(symbols, a, 0))
 }
 
-fn aggregate_kind(is_zero: bool) -> ListKind {
+fn aggregate_kind(is_zero: bool) -> ListKind
+    ensures { result ≡ spec.aggregate_kind is_zero }
+{
     if is_zero {
         ListKind::Zeros
     } else {
@@ -97,7 +138,9 @@ fn aggregate_kind(is_zero: bool) -> ListKind {
     }
 }
 
-fn list_kind(symbols: &Symbols, a: Shape, vs: &[Value<Counted>]) -> ListKind {
+fn list_kind(symbols: &Symbols, a: Shape, vs: &[Value<Counted>]) -> ListKind
+    ensures { result ≡ spec.list_kind symbols.now a (values_of vs.now) }
+{
     if has_parts(a) {
         aggregate_kind(is_whole_zero(symbols, a, vs))
     } else if is_scalar_shape(a) {
@@ -108,7 +151,9 @@ fn list_kind(symbols: &Symbols, a: Shape, vs: &[Value<Counted>]) -> ListKind {
 }
 
 // Whether it is a string literal for an array of such elements and this length.
-fn is_string_for(element: Shape, length: Option<u64>, e: &Expr<Counted>) -> bool {
+fn is_string_for(element: Shape, length: Option<u64>, e: &Expr<Counted>) -> bool
+    ensures { result ≡ spec.is_string_for element length (view e.now) }
+{
     match e {
         Expr::Str(_, parts) => is_character(element) && fits_string(length, parts.as_slice()),
         _ => false,
@@ -122,7 +167,9 @@ fn check_array_single(
     element: TypeId,
     length: Option<u64>,
     e: &Expr<Counted>,
-) {
+)
+    ensures { found.new ≡ spec.string_checked (shape_of symbols.now.types element) length (view e.now) found.old }
+{
     if !is_string_for(symbols.types.shape(element), length, e) {
         misshapen_single(found, e);
     }
@@ -135,7 +182,9 @@ fn check_single(
     life: Life,
     target: Shape,
     e: &Expr<Counted>,
-) {
+)
+    ensures { found.new ≡ spec.single_checked symbols.now life target (view e.now) found.old }
+{
     match target {
         Shape::Integer(_, _) | Shape::Pointer(_, _) => {
             check_scalar(symbols, found, life, target, e)
@@ -155,7 +204,9 @@ pub fn check_value(
     life: Life,
     target: Shape,
     v: &Value<Counted>,
-) {
+)
+    ensures { found.new ≡ spec.value_checked symbols.now life target (view_value v.now) found.old }
+{
     match v {
         Value::Expr(e) => check_single(symbols, found, life, target, e),
         Value::List(_, vs, _) => match list_kind(symbols, target, vs.as_slice()) {
@@ -175,7 +226,9 @@ fn check_parts(
     life: Life,
     target: Shape,
     vs: &[Value<Counted>],
-) {
+)
+    ensures { found.new ≡ spec.parts_checked symbols.now life target 0 (values_of vs.now) found.old }
+{
     for (number, v) in vs.iter().enumerate() {
         if has_part(symbols, target, number) {
             check_value(symbols, found, life, part_at(symbols, target, number), v);
