@@ -101,6 +101,60 @@ fn walked<'a>(
     Ok(walk)
 }
 
+// The least offence of the walk and of the rules that are asked of the file's stretch of the arena.
+fn least<'a>(
+    alloc: Global,
+    arena: &Arena,
+    walk: &Walk<'a>,
+    stretch: Stretch,
+) -> Result<Option<Offence>, Memory> {
+    let symbols = &walk.checker.symbols;
+    let found = &walk.checker.found;
+    let around = offence_in(alloc, arena, symbols, found, stretch.start, stretch.end)?;
+    Ok(lesser(found.least, around))
+}
+
+// What is kept of a walk, or its least offence.
+fn answered<'a>(
+    alloc: Global,
+    walk: Walk<'a>,
+    stretch: Stretch,
+    least: Option<Offence>,
+) -> Result<Checked, CheckFault> {
+    match least {
+        Some(offence) => Err(CheckFault::Offence(offence)),
+        None => match kept(alloc, walk, stretch) {
+            Ok(checked) => Ok(checked),
+            Err(_) => Err(CheckFault::Memory),
+        },
+    }
+}
+
+// What a walk over a file leaves, judged.
+fn judged<'a>(
+    alloc: Global,
+    arena: &Arena,
+    walk: Walk<'a>,
+    stretch: Stretch,
+) -> Result<Checked, CheckFault> {
+    match least(alloc, arena, &walk, stretch) {
+        Ok(least) => answered(alloc, walk, stretch, least),
+        Err(_) => Err(CheckFault::Memory),
+    }
+}
+
+// The walk over a file whose nodes are in the arena.
+fn begun_walk<'a>(
+    alloc: Global,
+    file: &'a FileTree<Counted>,
+    file_number: u32,
+    known: Known,
+    stretch: Stretch,
+) -> Result<Walk<'a>, Memory> {
+    let known = begun(alloc, known, stretch)?;
+    walked(alloc, file, file_number, known)
+}
+
 /// The rules C15 to C52 over a file, whose nodes are numbered from the arena's count on.
 ///
 /// The answer is the first rule that is broken, by place and then by rule; else what is known of the files so far and of
@@ -113,14 +167,12 @@ pub fn check_unit(
     known: Known,
     arena: &mut Arena,
 ) -> Result<Checked, CheckFault> {
-    let stretch = filled(arena, file)?;
-    let known = begun(alloc, known, stretch)?;
-    let walk = walked(alloc, file, file_number, known)?;
-    let symbols = &walk.checker.symbols;
-    let found = &walk.checker.found;
-    let around = offence_in(alloc, arena, symbols, found, stretch.start, stretch.end)?;
-    match lesser(found.least, around) {
-        Some(offence) => Err(CheckFault::Offence(offence)),
-        None => Ok(kept(alloc, walk, stretch)?),
+    let stretch = match filled(arena, file) {
+        Ok(stretch) => stretch,
+        Err(_) => return Err(CheckFault::Memory),
+    };
+    match begun_walk(alloc, file, file_number, known, stretch) {
+        Ok(walk) => judged(alloc, arena, walk, stretch),
+        Err(_) => Err(CheckFault::Memory),
     }
 }
