@@ -12,8 +12,9 @@ use Rattle.cc_tests.specs.Entries.{entry_named, formals_of, is_in_range}
 
 -- whether each argument is in the range of its formal
 abbrev pub are_in_range : Program → List VarId → List ℤ → Bool
+are_in_range program formals [] = true
+are_in_range program [] (number ∷ numbers) = true
 are_in_range program (formal ∷ formals) (number ∷ numbers) = if is_in_range program formal number then are_in_range program formals numbers else false
-are_in_range program _ _ = true
 
 -- B2: the entry has as many formals as there are arguments; B3: each argument is in the range of its formal
 abbrev pub entry_fault : Program → FuncId → List ℤ → Option ℕ

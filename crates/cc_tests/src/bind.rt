@@ -94,8 +94,8 @@ fn bound_tests(alloc: Global, program: &Program, tests: &[RawTest]) -> Result<Te
 
 // The first call of these tests that breaks a rule: the test and the call, counted from 0, and the rule.
 fn first_in(program: &Program, mut tests: &[RawTest]) -> Option<TestFault>
-    requires few { length tests.entry.now ≤ 1000 }
-    requires calls { All IsWellMadeTest tests.entry.now }
+    requires few { length tests.now ≤ 1000 }
+    requires calls { All IsWellMadeTest tests.now }
     ensures { result ≡ tests_fault program.now 0 tests.entry.now }
 {
     let mut number = 0;

@@ -5,13 +5,16 @@ ghost use Rattle.cc_tests.specs.Rules as spec;
 use crate::entry::{entry_named, formals_of, is_in_range};
 use crate::rule::{ARGUMENT_COUNT, ARGUMENT_RANGE, ENTRY};
 use cc_program::{FuncId, Program, VarId};
-use cc_project::{RawCall, RawTest};
+use cc_project::RawCall;
 
 // Whether each of the arguments is in the range of its formal.
 fn are_in_range(program: &Program, mut formals: &[VarId], mut args: &[i64]) -> bool
     ensures { result ≡ spec.are_in_range program.now formals.entry.now args.entry.now }
 {
-    while let ([formal, other_formals @ ..], [number, other_args @ ..]) = (formals, args) {
+    while let [number, other_args @ ..] = args {
+        let [formal, other_formals @ ..] = formals else {
+            return true;
+        };
         if !is_in_range(program, *formal, *number) {
             return false;
         }
@@ -48,7 +51,7 @@ fn call_fault(program: &Program, call: &RawCall) -> Option<u8>
 
 /// The first of these calls that breaks a rule, counted from 0, and the rule.
 pub fn first_fault(program: &Program, mut calls: &[RawCall]) -> Option<(u32, u8)>
-    requires { length calls.entry.now ≤ 10000 }
+    requires { length calls.now ≤ 10000 }
     ensures { result ≡ spec.first_fault program.now 0 calls.entry.now }
 {
     let mut number = 0;

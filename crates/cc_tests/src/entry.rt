@@ -17,16 +17,24 @@ fn is_named(program: &Program, f: FuncId, name: &str) -> bool
     }
 }
 
+// The first of these functions that has this name.
+fn first_named(program: &Program, mut entries: &[FuncId], name: &str) -> Option<FuncId>
+    ensures { result ≡ spec.first_named program.now entries.entry.now name.now }
+{
+    while let [f, rest @ ..] = entries {
+        if is_named(program, *f, name) {
+            return Some(*f);
+        }
+        entries = rest;
+    }
+    None
+}
+
 /// The first of the entries that has this name.
 pub fn entry_named(program: &Program, name: &str) -> Option<FuncId>
     ensures { result ≡ spec.entry_named program.now name.now }
 {
-    for f in program.entries() {
-        if is_named(program, *f, name) {
-            return Some(*f);
-        }
-    }
-    None
+    first_named(program, program.entries(), name)
 }
 
 // Whether the number is in the range.
