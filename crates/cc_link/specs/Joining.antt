@@ -1,5 +1,5 @@
 -- Which link rule the files of a project break first.
-use Rattle.std.specs.Prelude.{ℕ, ◌≡◌, ◌⊎◌, List, [], ◌∷◌, length, Option, Some, None}
+use Rattle.std.specs.Prelude.{ℕ, ◌≡◌, ◌⊎◌, List, [], length, Option, Some, None}
 use Rattle.cc_arena.specs.declared.arena.Arena.{Arena}
 use Rattle.cc_project.specs.Project.{Project}
 use Rattle.cc_symbols.specs.declared.known.Known.{Known}

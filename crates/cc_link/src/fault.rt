@@ -1,5 +1,8 @@
 // Why files make no program.
-use cc_base::{Memory, Place};
+ghost use Rattle.std.specs.Prelude.{◌≡◌};
+ghost use Rattle.cc_link.specs.declared.fault.LinkFault.TheVariants.{Memory};
+
+use cc_base::{Memory as NoMemory, Place};
 use cc_link_rules::Names;
 
 /// Why files make no program.
@@ -14,8 +17,10 @@ pub enum LinkFault {
     Memory,
 }
 
-impl From<Memory> for LinkFault {
-    fn from(_: Memory) -> LinkFault {
+impl From<NoMemory> for LinkFault {
+    ghost from_gives = { λ _ e. e ≡ Memory };
+
+    fn from(_: NoMemory) -> LinkFault {
         LinkFault::Memory
     }
 }
