@@ -1,5 +1,5 @@
 -- What an initialiser tells of the length of an array (C17 6.7.9, paragraph 22).
-use Rattle.std.specs.Prelude.{ℕ, ◌+◌, ◌-◌, ◌^◌, min, Bool, true, false, if◌then◌else◌, List, [], ◌∷◌, length, Option, Some, None}
+use Rattle.std.specs.Prelude.{ℕ, suc, ◌+◌, ◌-◌, ◌^◌, min, Bool, true, false, if◌then◌else◌, List, [], ◌∷◌, length, Option, Some, None}
 use Rattle.cc_arith.specs.declared.kind.IntKind.{IntKind}
 use Rattle.cc_arith.specs.declared.kind.IntKind.TheVariants.{Char, SChar, UChar}
 use Rattle.cc_tree.specs.Trees.{ExprTree, string, ValueTree, single, braces, ValueTrees, no_values, more_values}
@@ -26,7 +26,7 @@ string_length bs = bytes_from 0 bs
 
 abbrev pub count : ValueTrees Counted → ℕ
 count no_values = 0
-count (more_values v vs) = 1 + count vs
+count (more_values v vs) = suc (count vs)
 
 abbrev pub string_told : Shape → List (List ℕ) → Option ℕ
 string_told a bs = if is_character a then Some (min (string_length bs + 1) (2 ^ 64 - 1)) else None

@@ -1,5 +1,5 @@
 -- Initialisers of scalars.
-use Rattle.std.specs.Prelude.{Bool, ◌&&◌, if◌then◌else◌, Option, Some, None}
+use Rattle.std.specs.Prelude.{ℕ, ◌+◌, nat_eq, Bool, true, false, ◌&&◌, if◌then◌else◌, Option, Some, None}
 use Rattle.std.specs.Option.{is_none}
 use Rattle.cc_tree.specs.Trees.{ExprTree, ValueTree, single, braces, ValueTrees, no_values, more_values}
 use Rattle.cc_tree_notes.specs.declared.note.Counted.{Counted}
@@ -14,19 +14,18 @@ use Rattle.cc_symbols.specs.declared.symbols.Symbols.{Symbols}
 use Rattle.cc_judging.specs.Asking.{is_integer}
 use Rattle.cc_typing.specs.Noting.{offended}
 use Rattle.cc_typing.specs.Checks.{fit_checked}
-use Rattle.cc_constants.specs.Constants.{constant}
+use Rattle.cc_constants.specs.Values.{constant}
 use Rattle.cc_check_values.specs.Typed.{type_of, misshapen}
 use Rattle.cc_check_values.specs.Statics.{is_static_value}
 
--- the expression of an initialiser without braces
-abbrev pub single_part : ValueTree Counted → Option (ExprTree Counted)
-single_part (single e) = Some e
-single_part v = None
+abbrev pub is_single : ValueTree Counted → Bool
+is_single (single e) = true
+is_single v = false
 
--- the expression of the only one of these
-abbrev pub lone_part : ValueTrees Counted → Option (ExprTree Counted)
-lone_part (more_values v no_values) = single_part v
-lone_part vs = None
+-- from this number on there is none but the first, which is an expression
+abbrev pub is_lone : ℕ → ValueTrees Counted → Bool
+is_lone i no_values = true
+is_lone i (more_values v vs) = (nat_eq i 0 && is_single v) && is_lone (1 + i) vs
 
 -- C26
 abbrev pub form_checked : Symbols → ExprTree Counted → Findings → Findings
@@ -46,7 +45,14 @@ abbrev pub typed_checked : Symbols → Life → Shape → ExprTree Counted → O
 typed_checked st life a e (Some t) f = fit_checked st (Some (Plain a)) e (Some t) (static_checked st life a e f)
 typed_checked st life a e None f = f
 
--- an initialiser in braces of which this is the only expression
-abbrev pub lone_checked : Symbols → Life → Shape → ValueTree Counted → Option (ExprTree Counted) → Findings → Findings
-lone_checked st life a v (Some e) f = typed_checked st life a e (type_of f e) f
-lone_checked st life a v None f = misshapen v f
+abbrev pub only_checked : Symbols → Life → Shape → ValueTree Counted → Findings → Findings
+only_checked st life a (single e) f = typed_checked st life a e (type_of f e) f
+only_checked st life a v f = f
+
+abbrev pub each_checked : Symbols → Life → Shape → ValueTrees Counted → Findings → Findings
+each_checked st life a no_values f = f
+each_checked st life a (more_values v vs) f = each_checked st life a vs (only_checked st life a v f)
+
+-- an initialiser with these in its braces: one expression
+abbrev pub lone_checked : Symbols → Life → Shape → ValueTree Counted → ValueTrees Counted → Findings → Findings
+lone_checked st life a v vs f = if is_lone 0 vs then each_checked st life a vs f else misshapen v f

@@ -1,5 +1,5 @@
 -- The shape of initialisers (C25), and what is asked of their scalars.
-use Rattle.std.specs.Prelude.{ℕ, ◌+◌, ℤ, pos, Bool, true, false, not, ◌&&◌, nat_lt, if◌then◌else◌, List, Option, Some, None, is_some, slice_get}
+use Rattle.std.specs.Prelude.{ℕ, ◌+◌, ℤ, pos, Bool, true, false, not, ◌&&◌, nat_lt, nat_eq, if◌then◌else◌, List, Option, Some, None, is_some, slice_get}
 use Rattle.std.specs.Ordering.{int_eq}
 use Rattle.cc_tree.specs.declared.ids.StructId.{StructId}
 use Rattle.cc_tree.specs.Trees.{ExprTree, integer, string, ValueTree, single, braces, ValueTrees, no_values, more_values}
@@ -17,16 +17,17 @@ use Rattle.cc_check_values.specs.declared.shape.ListKind.{ListKind}
 use Rattle.cc_check_values.specs.declared.shape.ListKind.TheVariants.{Zeros, Parts, Lone, Misfit}
 use Rattle.cc_check_values.specs.Typed.{type_of, misshapen}
 use Rattle.cc_check_values.specs.Lengths.{is_character, string_length}
-use Rattle.cc_check_values.specs.Scalars.{lone_part, lone_checked, typed_checked}
+use Rattle.cc_check_values.specs.Scalars.{lone_checked, typed_checked}
 
 -- the integer constant token of value 0
 abbrev pub is_zero_token : ValueTree Counted → Bool
 is_zero_token (single (integer n v k)) = int_eq v (pos 0)
 is_zero_token v = false
 
-abbrev pub is_lone_zero : ValueTrees Counted → Bool
-is_lone_zero (more_values v no_values) = is_zero_token v
-is_lone_zero vs = false
+-- from this number on there is none but the first, which is such a token
+abbrev pub is_lone_zero : ℕ → ValueTrees Counted → Bool
+is_lone_zero i no_values = true
+is_lone_zero i (more_values v vs) = (nat_eq i 0 && is_zero_token v) && is_lone_zero (1 + i) vs
 
 -- the final zero of a string literal need not fit
 abbrev pub fits_string : Option ℕ → List (List ℕ) → Bool
@@ -68,7 +69,7 @@ has_parts a = false
 
 -- `{0}` over an array or struct whose first part is no scalar: it begins the first scalar by 0, which fits every scalar
 abbrev pub is_whole_zero : Symbols → Shape → ValueTrees Counted → Bool
-is_whole_zero st a vs = is_lone_zero vs && not (is_scalar_shape (part_at st a 0))
+is_whole_zero st a vs = is_lone_zero 0 vs && not (is_scalar_shape (part_at st a 0))
 
 -- what a list in braces does for a type: it begins the whole by zeros, its parts, a scalar, or it can't stand there
 abbrev pub aggregate_kind : Bool → ListKind
@@ -108,7 +109,7 @@ abbrev mutual
       by_kind (list_kind st a vs)
       f
       (parts_checked st life a 0 vs f)
-      (lone_checked st life a (braces n vs trailing) (lone_part vs) f)
+      (lone_checked st life a (braces n vs trailing) vs f)
       (misshapen (braces n vs trailing) f)
 
   -- those of its parts, from this number on; what has no part is too much

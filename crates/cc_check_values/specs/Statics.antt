@@ -16,7 +16,8 @@ use Rattle.cc_symbols.specs.declared.findings.Findings.{Findings}
 use Rattle.cc_symbols.specs.declared.symbols.Symbols.{Symbols}
 use Rattle.cc_typing.specs.LookUps.{declaration_at}
 use Rattle.cc_typing.specs.Forms.{is_null}
-use Rattle.cc_constants.specs.Constants.{constant, is_constant}
+use Rattle.cc_constants.specs.Forms.{is_constant}
+use Rattle.cc_constants.specs.Values.{constant}
 use Rattle.cc_check_values.specs.Typed.{type_of}
 
 abbrev pub is_function_form : Form → Bool

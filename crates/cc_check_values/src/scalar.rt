@@ -85,6 +85,56 @@ pub(crate) fn check_scalar(
     check_typed(symbols, found, life, target, e, kind);
 }
 
+// Whether it is an expression without braces.
+fn is_single(v: &Value<Counted>) -> bool
+    ensures { result ≡ spec.is_single (view_value v.now) }
+{
+    matches!(v, Value::Expr(_))
+}
+
+// Whether there is none but the first, which is an expression.
+fn is_lone(vs: &[Value<Counted>]) -> bool
+    ensures { result ≡ spec.is_lone 0 (values_of vs.now) }
+{
+    for (number, v) in vs.iter().enumerate() {
+        if number > 0 || !is_single(v) {
+            return false;
+        }
+    }
+    true
+}
+
+// C26, C27 and C38 of an expression, which stands in the braces of a scalar.
+fn check_only(
+    symbols: &Symbols,
+    found: &mut Findings,
+    life: Life,
+    target: Shape,
+    v: &Value<Counted>,
+)
+    ensures { found.new ≡ spec.only_checked symbols.now life target (view_value v.now) found.old }
+{
+    match v {
+        Value::Expr(e) => check_scalar(symbols, found, life, target, e),
+        Value::List(_, _, _) => {}
+    }
+}
+
+// The same for each.
+fn check_each(
+    symbols: &Symbols,
+    found: &mut Findings,
+    life: Life,
+    target: Shape,
+    vs: &[Value<Counted>],
+)
+    ensures { found.new ≡ spec.each_checked symbols.now life target (values_of vs.now) found.old }
+{
+    for v in vs {
+        check_only(symbols, found, life, target, v);
+    }
+}
+
 // C25 to C27 and C38 of a scalar's initialiser in braces: one expression.
 pub(crate) fn check_lone(
     symbols: &Symbols,
@@ -94,10 +144,11 @@ pub(crate) fn check_lone(
     v: &Value<Counted>,
     vs: &[Value<Counted>],
 )
-    ensures { found.new ≡ spec.lone_checked symbols.now life target (view_value v.now) (spec.lone_part (values_of vs.now)) found.old }
+    ensures { found.new ≡ spec.lone_checked symbols.now life target (view_value v.now) (values_of vs.now) found.old }
 {
-    match vs {
-        [Value::Expr(e)] => check_scalar(symbols, found, life, target, e),
-        _ => misshapen(found, v),
+    if is_lone(vs) {
+        check_each(symbols, found, life, target, vs);
+    } else {
+        misshapen(found, v);
     }
 }

@@ -26,11 +26,26 @@ pub(crate) enum ListKind {
     Misfit,
 }
 
-// Whether these are one initialiser, the integer constant token of value 0.
-fn is_lone_zero(vs: &[Value<Counted>]) -> bool
-    ensures { result ≡ spec.is_lone_zero (values_of vs.now) }
+// Whether it is the integer constant token of value 0.
+fn is_zero_token(v: &Value<Counted>) -> bool
+    ensures { result ≡ spec.is_zero_token (view_value v.now) }
 {
-    matches!(vs, [Value::Expr(Expr::Int(_, 0, _))])
+    match v {
+        Value::Expr(Expr::Int(_, value, _)) => *value == 0,
+        _ => false,
+    }
+}
+
+// Whether there is none but the first, which is the integer constant token of value 0.
+fn is_lone_zero(vs: &[Value<Counted>]) -> bool
+    ensures { result ≡ spec.is_lone_zero 0 (values_of vs.now) }
+{
+    for (number, v) in vs.iter().enumerate() {
+        if number > 0 || !is_zero_token(v) {
+            return false;
+        }
+    }
+    true
 }
 
 // Whether a string literal fits an array of this length, its final zero aside.
