@@ -1,5 +1,5 @@
 -- The arena with a numbered tree at its end holds the tree, and all that stood in it.
-use Rattle.std.proofs.Common.{ℕ, ◌+◌, ◌-◌, ◌≤◌, ◌<◌, ◌≡◌, List, [], ◌∷◌, ◌++◌, Option, Some, None, length, take, drop, slice_get, slice_range, get_or, refl, sym, ap, subst, ◌∙◌, arith, length-append, length-drop}
+use Rattle.std.proofs.Common.{ℕ, ◌+◌, ◌-◌, ◌≤◌, ◌<◌, ◌≡◌, List, [], ◌∷◌, ◌++◌, Option, Some, None, length, drop, slice_get, slice_range, refl, sym, ap, subst, ◌∙◌, arith, length-append, length-drop}
 use Rattle.std.proofs.lemmas.List.{take-append-le, drop-append-le, get_or_append_left}
 use Rattle.std.proofs.lemmas.Option.{slice_get_within, slice_get-get_or, get_or_from_slice_get}
 use Rattle.std.proofs.Math.Seq.{drop-append_seam, take-length, get_or-append_seam}
@@ -11,11 +11,10 @@ use Rattle.cc_tree_notes.specs.Numbering.{counted, numbered_expr, numbered_exprs
 use Rattle.cc_tree_notes.specs.declared.note.Counted.{Counted}
 use Rattle.cc_arena.specs.Arenas.{pushed, with_list, with_bytes, span_after}
 use Rattle.cc_arena.specs.declared.arena.Arena.{Arena}
-use Rattle.cc_arena.specs.declared.arena.Placed.{Placed}
 use Rattle.cc_arena.specs.declared.node.Node.{Node}
 use Rattle.cc_arena.specs.declared.node.Node.TheVariants as node
 use Rattle.cc_arena.specs.declared.node.Span.{Span}
-use Rattle.cc_arena_fill.specs.Numbers.{joined, name_number, given_number}
+use Rattle.cc_arena_fill.specs.Numbers.{joined}
 use Rattle.cc_arena_fill.specs.Filling.{put_node, put_listing, put_expr, put_exprs, put_option, put_type, put_types, put_spec, put_specs, put_member, put_members, put_constant, put_constants, put_declarator, put_declarators, put_value, put_values, put_given, put_init, put_inits, put_declaration, put_start, put_clause, put_stmt, put_block, put_item, put_items, put_external, put_file}
 use Rattle.cc_arena_fill.specs.Holding.{Stands, HasStretch, StandsWithList, StandsWithBytes, Holds, HoldsExprs, HoldsOption, HoldsType, HoldsTypes, HoldsSpec, HoldsSpecs, HoldsMember, HoldsMembers, HoldsConstant, HoldsConstants, HoldsDeclarator, HoldsDeclarators, HoldsValue, HoldsValues, HoldsGiven, HoldsInit, HoldsInits, HoldsDeclaration, HoldsStart, HoldsClause, HoldsStmt, HoldsBlock, HoldsItem, HoldsItems, HoldsExternal, HoldsFile, Keeps, IsHeld, HoldsIfNumbered}
 

@@ -1,5 +1,5 @@
 -- Which flags a node sets, and which all nodes do.
-use Rattle.std.proofs.Common.{ℕ, zero, suc, ◌+◌, ◌-◌, ◌≤◌, ◌<◌, ◌≡◌, ◌≢◌, ◌⊎◌, inl, inr, Bool, true, false, List, [], ◌∷◌, ◌++◌, Option, Some, None, length, slice_get, get_or, set, replicate, refl, sym, ap, subst, ◌∙◌, arith}
+use Rattle.std.proofs.Common.{ℕ, zero, suc, ◌+◌, ◌-◌, ◌<◌, ◌≡◌, ◌⊎◌, inl, inr, Bool, true, false, List, [], ◌∷◌, Option, Some, None, length, slice_get, get_or, replicate, refl, sym, ap, subst, ◌∙◌, arith}
 use Rattle.std.specs.Prelude.{slice_set}
 use Rattle.std.proofs.lemmas.Bool.Decides.{eqb_tells}
 use Rattle.std.proofs.lemmas.List.{length-set, length-replicate, get_or-replicate}
@@ -11,7 +11,7 @@ use Rattle.cc_symbols.specs.Places.{grown}
 use Rattle.cc_arena_rules.specs.declared.around.Around.{Around}
 use Rattle.cc_arena_rules.specs.Inherited.{answer_at}
 use Rattle.cc_arena_rules.specs.Looks.{named}
-use Rattle.cc_arena_rules.specs.Variables.{takes, marked, marked_if, taken_from, TakesOf, AreTaken}
+use Rattle.cc_arena_rules.specs.Variables.{takes, marked_if, taken_from, AreTaken}
 
 -- the new flags are the old ones, with those set besides that P says
 pub record Sets (old new : List Bool) (P : ℕ → Type 0) : Type 0 where

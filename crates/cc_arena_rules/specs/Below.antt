@@ -16,7 +16,7 @@ use Rattle.cc_arena_rules.specs.declared.around.Standing.{Standing}
 use Rattle.cc_arena_rules.specs.declared.around.Standing.TheVariants as standing
 use Rattle.cc_arena_rules.specs.declared.around.Extent.{Extent}
 use Rattle.cc_arena_rules.specs.declared.around.Extent.TheVariants as extent
-use Rattle.cc_arena_rules.specs.Looks.{node_at, is_at, type_at, is_automatic, is_array, is_one_struct, inside}
+use Rattle.cc_arena_rules.specs.Looks.{node_at, is_at, type_at, is_automatic, is_one_struct, inside}
 
 -- whether a `break` has something to leave
 abbrev pub may_break : Node → Bool → Bool

@@ -9,7 +9,7 @@ use Rattle.cc_tree.specs.declared.operator.UnaryOp.TheVariants as unary
 use Rattle.cc_symbols.specs.declared.findings.Findings.{Findings}
 use Rattle.cc_symbols.specs.declared.symbols.Symbols.{Symbols}
 use Rattle.cc_types.specs.declared.expr_type.ExprType.{ExprType}
-use Rattle.cc_types.specs.declared.expr_type.ExprType.TheVariants.{Plain, Address}
+use Rattle.cc_types.specs.declared.expr_type.ExprType.TheVariants.{Plain}
 use Rattle.cc_types.specs.ExprTypes.{expr_type}
 use Rattle.cc_types.specs.Measures.{measure_of}
 use Rattle.cc_types.specs.Questions as types

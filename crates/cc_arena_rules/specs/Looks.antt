@@ -1,5 +1,5 @@
 -- Look-ups, each with nothing for what isn't there.
-use Rattle.std.specs.Prelude.{ℕ, Bool, true, false, ◌&&◌, not, cond, nat_le, nat_eq, List, [], ◌∷◌, Option, Some, None, length, slice_get, slice_range, drop}
+use Rattle.std.specs.Prelude.{ℕ, Bool, true, false, ◌&&◌, cond, nat_le, nat_eq, List, [], ◌∷◌, Option, Some, None, length, slice_get, slice_range, drop}
 use Rattle.cc_arena.specs.Arenas.{node_of}
 use Rattle.cc_arena.specs.declared.arena.Arena.{Arena}
 use Rattle.cc_arena.specs.declared.arena.Placed.{Placed}
@@ -12,8 +12,7 @@ use Rattle.cc_symbols.specs.declared.declared.Life.TheVariants as life
 use Rattle.cc_symbols.specs.declared.findings.Findings.{Findings}
 use Rattle.cc_symbols.specs.declared.symbols.Symbols.{Symbols}
 use Rattle.cc_types.specs.declared.expr_type.ExprType.{ExprType}
-use Rattle.cc_types.specs.declared.expr_type.ExprType.TheVariants.{Plain, Address}
-use Rattle.cc_types.specs.declared.shape.Shape.{Shape}
+use Rattle.cc_types.specs.declared.expr_type.ExprType.TheVariants.{Plain}
 use Rattle.cc_types.specs.declared.shape.Shape.TheVariants as shape
 
 -- the nodes from `start` to before `end`, if there are all of them
