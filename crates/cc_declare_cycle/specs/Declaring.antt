@@ -33,9 +33,9 @@ use Rattle.cc_declare_cycle.specs.Values.{judged, valued_after}
 abbrev pub Kinds : Type 0
 Kinds = Checker × List (Option TypeId)
 
--- these types, and then those
-abbrev pub then : List (Option TypeId) → Kinds → Kinds
-then ts p = (p.0, ts ++ p.1)
+-- these types, and those behind them
+abbrev pub preceded : List (Option TypeId) → Kinds → Kinds
+preceded ts p = (p.0, ts ++ p.1)
 
 -- the same, where the block is left
 abbrev pub left_after : Kinds → Kinds
@@ -53,6 +53,10 @@ said setting n p = finished p.0 setting n p.1
 -- what a declarator gives, once its forms are read
 abbrev pub formed_of : DeclTree Counted → Checker × Shaped → Checker × Formed
 formed_of d p = formed p.0 (note_in d) p.1
+
+-- whether an array form that stands round this may lack its length
+abbrev pub may_lack : Bool → DeclTree Counted → Bool
+may_lack may_lack_length d = may_lack_length && is_nearest d
 
 -- an array, once its length is read
 abbrev pub sized_as : Counted → Bool → Shaped → Checker × ConstantValue → Checker × Shaped
@@ -97,13 +101,17 @@ member_as n p q = (plain_specifiers q.0 n p q.1.1, q.1.0)
 abbrev pub field_in : Bool → Checker × Fields → Checker × (Fields × Bool)
 field_in is_judged p = (p.0, (p.1, is_judged))
 
-abbrev pub field_as : DeclTree Counted → Fields → Checker × Formed → Checker × (Fields × Bool)
-field_as d fs q = field_in q.1.is_judged (member_made (name_in d) q.1 q.0 fs)
+abbrev pub field_as : DeclTree Counted → Bool → Fields → Checker × Formed → Checker × (Fields × Bool)
+field_as d are_judged fs q = field_in (are_judged && q.1.is_judged) (member_made (name_in d) q.1 q.0 fs)
 
 -- where a constant's value stands: its expression, or its name
 abbrev pub place_of : Counted → ExprOption Counted → Counted
 place_of n no_expr = n
 place_of n (an_expr e) = expr_note e
+
+-- a constant, by its value
+abbrev pub enumerated_by : ConstantTree Counted → ℤ → ConstantValue → Checker → Checker × ℤ
+enumerated_by (enumerator_tree n x e) next v s = enumerated s n x (place_of n e) next v
 
 abbrev pub enumerated_as : Counted → List ℕ → Counted → ℤ → Checker × ConstantValue → Checker × ℤ
 enumerated_as n x place next p = enumerated p.0 n x place next p.1
@@ -111,16 +119,16 @@ enumerated_as n x place next p = enumerated p.0 n x place next p.1
 abbrev mutual
   -- what the forms of a declarator make, the outermost first
   pub shaped : DeclTree Counted → Bool → Shaped → Checker → Checker × Shaped
-  shaped (declared n x) may_lack base s = (s, base)
-  shaped nameless may_lack base s = (s, base)
-  shaped (pointer n k d) may_lack base s = let p = pointer_made s n (nat_lt 0 k) base in shaped d may_lack p.1 p.0
-  shaped (array n d e) may_lack base s =
-      let p = sized_as n (may_lack && is_nearest d) base (optional_constant e s) in
-      shaped d may_lack p.1 p.0
-  shaped (function n d ps) may_lack base s =
+  shaped (declared n x) may_lack_length base s = (s, base)
+  shaped nameless may_lack_length base s = (s, base)
+  shaped (pointer n k d) may_lack_length base s = let p = pointer_made s n (nat_lt 0 k) base in shaped d may_lack_length p.1 p.0
+  shaped (array n d e) may_lack_length base s =
+      let p = sized_as n (may_lack may_lack_length d) base (optional_constant e s) in
+      shaped d may_lack_length p.1 p.0
+  shaped (function n d ps) may_lack_length base s =
       let p = called_as n (is_lone_unnamed ps) base (left_after (parameters ps (entered s))) in
-      shaped d may_lack p.1 p.0
-  shaped (grouped n d) may_lack base s = shaped d may_lack base s
+      shaped d may_lack_length p.1 p.0
+  shaped (grouped n d) may_lack_length base s = shaped d may_lack_length base s
 
   pub parameters : TypeTrees Counted → Checker → Kinds
   parameters no_types s = (s, [])
@@ -165,8 +173,8 @@ abbrev mutual
   pub fields_of : Option TypeId → DeclTrees Counted → Bool → Fields → Checker → Checker × (Fields × Bool)
   fields_of base no_declarators are_judged fs s = (s, (fs, are_judged))
   fields_of base (more_declarators d ds) are_judged fs s =
-      let p = field_as d fs (formed_of d (shaped d false (based base) s)) in
-      fields_of base ds (are_judged && p.1.1) p.1.0 p.0
+      let p = field_as d are_judged fs (formed_of d (shaped d false (based base) s)) in
+      fields_of base ds p.1.1 p.1.0 p.0
 
   pub constants : ConstantTrees Counted → ℤ → Checker → Checker
   constants no_constants next s = s
@@ -206,11 +214,11 @@ abbrev mutual
 
 -- what a declarator gives of the type of its specifiers
 abbrev pub declarator : Option TypeId → Bool → DeclTree Counted → Checker → Checker × Formed
-declarator base may_lack d s = formed_of d (shaped d may_lack (based base) s)
+declarator base may_lack_length d s = formed_of d (shaped d may_lack_length (based base) s)
 
 -- an array, by its length
 abbrev pub sized : Counted → ExprOption Counted → Bool → Shaped → Checker → Checker × Shaped
-sized n e may_lack base s = sized_as n may_lack base (optional_constant e s)
+sized n e may_lack_here base s = sized_as n may_lack_here base (optional_constant e s)
 
 -- the types of parameters, whose names are gone after them
 abbrev pub prototype : TypeTrees Counted → Checker → Kinds
@@ -232,9 +240,27 @@ all_fields ms s = fields_left (members ms no_fields (members_entered s))
 abbrev pub structure : Counted → Option StructId → MemberTrees Counted → Checker → Checker × Option StructId
 structure n id ms s = structured n id (has_members ms) s (all_fields ms s)
 
--- a member, and whether it is judged
-abbrev pub field : Option TypeId → DeclTree Counted → Fields → Checker → Checker × (Fields × Bool)
-field base d fs s = field_as d fs (declarator base false d s)
+-- a member, and whether it and those before it are judged
+abbrev pub field : Option TypeId → DeclTree Counted → Bool → Fields → Checker → Checker × (Fields × Bool)
+field base d are_judged fs s = field_as d are_judged fs (declarator base false d s)
+
+-- members that are declared together, by what their specifiers say
+abbrev pub member_with : Counted → Specified → DeclTrees Counted → Fields → Checker → Checker × Fields
+member_with n p ds fs s = member_as n p (fields_of p.kind ds true fs s)
+
+-- a parameter, by what its specifiers say
+abbrev pub parameter_with : Counted → Specified → DeclTree Counted → Checker → Checker × Option TypeId
+parameter_with n p d s = parameter_as n d p (declarator p.kind true d s)
+
+-- a type name, by the type of its specifiers
+abbrev pub type_name_with : Bool → Counted → Option TypeId → DeclTree Counted → Checker → Checker
+type_name_with is_before_zero n base d s = type_name_as n d is_before_zero (shaped d false (based base) s)
+
+-- an array form, and then those inside it
+abbrev pub array_form : Counted → DeclTree Counted → ExprOption Counted → Bool → Shaped → Checker → Checker × Shaped
+array_form n d e may_lack_length base s =
+    let p = sized_as n (may_lack may_lack_length d) base (optional_constant e s) in
+    shaped d may_lack_length p.1 p.0
 
 -- the type of a full expression
 abbrev pub expression : ExprTree Counted → Checker → Checker × Option ExprType

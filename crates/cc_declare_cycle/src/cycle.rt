@@ -1,5 +1,5 @@
 // Specifiers, declarators, members, enumeration constants, type names and expressions: each may lead to each of the others.
-ghost use Rattle.std.specs.Prelude.{◌≡◌, true, pos, IfOk, OnOk};
+ghost use Rattle.std.specs.Prelude.{◌≡◌, ◌&&◌, true, pos, IfOk, OnOk};
 ghost use Rattle.cc_tree.specs.Views.{view, exprs_of, option_of, view_declarator, declarators_of, view_type, types_of, view_spec, specs_of, view_member, members_of, view_constant, constants_of};
 ghost use Rattle.cc_declare.specs.Members.{no_fields};
 ghost use Rattle.cc_declare.specs.Specifying.{nothing_said};
@@ -7,7 +7,10 @@ ghost use Rattle.cc_declare_cycle.specs.Declaring as spec;
 
 use crate::values::{judged, valued};
 use cc_base::Memory;
-use cc_declare::{Checker, ConstantValue, Fields, Formed, Named, Said, Setting, Shaped, Specified, is_lone_unnamed, is_nearest, name_of, note_of};
+use cc_declare::{
+    Checker, ConstantValue, Fields, Formed, Named, Said, Setting, Shaped, Specified,
+    is_lone_unnamed, is_nearest, name_of, note_of,
+};
 use cc_symbols::Slots;
 use cc_tree::{Constant, Declarator, Expr, Member, Spec, StructId, TypeName};
 use cc_tree_notes::Counted;
@@ -54,9 +57,7 @@ fn shaped<'a>(
             shaped(alloc, checker, made, may_lack_length, d.get())
         }
         Declarator::Array(n, d, e) => {
-            let may_lack = may_lack_length && is_nearest(d.get());
-            let made = sized(alloc, checker, *n, e, may_lack, base)?;
-            shaped(alloc, checker, made, may_lack_length, d.get())
+            array_form(alloc, checker, base, may_lack_length, *n, d.get(), e)
         }
         Declarator::Func(n, d, ps) => {
             let made = called(alloc, checker, *n, ps.as_slice(), base)?;
@@ -64,6 +65,32 @@ fn shaped<'a>(
         }
         Declarator::Paren(_, d) => shaped(alloc, checker, base, may_lack_length, d.get()),
     }
+}
+
+// Whether an array form that stands round this may lack its length.
+fn may_lack(may_lack_length: bool, d: &Declarator<Counted>) -> bool
+    ensures { result ≡ spec.may_lack may_lack_length (view_declarator d.now) }
+{
+    may_lack_length && is_nearest(d)
+}
+
+// An array form, and then those inside it.
+#[cycle(declare)]
+fn array_form<'a>(
+    alloc: Global,
+    checker: &mut Checker<'a>,
+    base: Shaped,
+    may_lack_length: bool,
+    note: Counted,
+    d: &'a Declarator<Counted>,
+    e: &'a Option<Boxed<Expr<Counted>>>,
+) -> Result<Shaped, Memory>
+    ensures { IfOk result (λ r. (checker.new, r)
+        ≡ spec.array_form note (view_declarator d.now) (option_of e.now) may_lack_length base checker.old) }
+{
+    let may_lack_here = may_lack(may_lack_length, d);
+    let made = sized(alloc, checker, note, e, may_lack_here, base)?;
+    shaped(alloc, checker, made, may_lack_length, d)
 }
 
 // An array, by its length.
@@ -139,9 +166,29 @@ fn parameter<'a>(
 ) -> Result<Option<TypeId>, Memory>
     ensures { IfOk result (λ r. (checker.new, r) ≡ spec.parameter (view_type p.now) checker.old) }
 {
-    let said = specifiers(alloc, checker, Setting::Parameter, p.note, p.specs.as_slice())?;
-    let formed = declarator(alloc, checker, said.kind, true, &p.declarator)?;
-    checker.parameter(alloc, p.note, said, name_of(&p.declarator), formed)
+    let said = specifiers(
+        alloc,
+        checker,
+        Setting::Parameter,
+        p.note,
+        p.specs.as_slice(),
+    )?;
+    parameter_with(alloc, checker, p.note, said, &p.declarator)
+}
+
+// The same, by what its specifiers say.
+#[cycle(declare)]
+fn parameter_with<'a>(
+    alloc: Global,
+    checker: &mut Checker<'a>,
+    note: Counted,
+    said: Specified,
+    d: &'a Declarator<Counted>,
+) -> Result<Option<TypeId>, Memory>
+    ensures { IfOk result (λ r. (checker.new, r) ≡ spec.parameter_with note said (view_declarator d.now) checker.old) }
+{
+    let formed = declarator(alloc, checker, said.kind, true, d)?;
+    checker.parameter(alloc, note, said, name_of(d), formed)
 }
 
 // The type of a type name. One that stands before a zero may be `void *`.
@@ -154,9 +201,38 @@ fn type_name<'a>(
 ) -> Result<(), Memory>
     ensures { OnOk result (checker.new ≡ spec.type_named is_before_zero (view_type t.now) checker.old) }
 {
-    let said = specifiers(alloc, checker, Setting::TypeName, t.note, t.specs.as_slice())?;
-    let made = shaped(alloc, checker, Shaped::based(said.kind), false, &t.declarator)?;
-    checker.type_name(t.note, note_of(&t.declarator), is_before_zero, made)
+    let said = specifiers(
+        alloc,
+        checker,
+        Setting::TypeName,
+        t.note,
+        t.specs.as_slice(),
+    )?;
+    type_name_with(
+        alloc,
+        checker,
+        is_before_zero,
+        t.note,
+        said.kind,
+        &t.declarator,
+    )
+}
+
+// The same, by the type of its specifiers.
+#[cycle(declare)]
+fn type_name_with<'a>(
+    alloc: Global,
+    checker: &mut Checker<'a>,
+    is_before_zero: bool,
+    note: Counted,
+    base: Option<TypeId>,
+    d: &'a Declarator<Counted>,
+) -> Result<(), Memory>
+    ensures { OnOk result (checker.new
+        ≡ spec.type_name_with is_before_zero note base (view_declarator d.now) checker.old) }
+{
+    let made = shaped(alloc, checker, Shaped::based(base), false, d)?;
+    checker.type_name(note, note_of(d), is_before_zero, made)
 }
 
 // The note of the first specifier; of none, this one.
@@ -309,8 +385,31 @@ fn member<'a>(
     ensures { OnOk result ((checker.new, fields.new) ≡ spec.member (view_member m.now) fields.old checker.old) }
 {
     let said = specifiers(alloc, checker, Setting::Member, m.note, m.specs.as_slice())?;
-    let are_judged = fields_of(alloc, checker, fields, said.kind, m.declarators.as_slice())?;
-    checker.plain_specifiers(m.note, said, are_judged);
+    member_with(
+        alloc,
+        checker,
+        fields,
+        m.note,
+        said,
+        m.declarators.as_slice(),
+    )
+}
+
+// The same, by what their specifiers say.
+#[cycle(declare)]
+fn member_with<'a>(
+    alloc: Global,
+    checker: &mut Checker<'a>,
+    fields: &mut Fields,
+    note: Counted,
+    said: Specified,
+    ds: &'a [Declarator<Counted>],
+) -> Result<(), Memory>
+    ensures { OnOk result ((checker.new, fields.new)
+        ≡ spec.member_with note said (declarators_of ds.now) fields.old checker.old) }
+{
+    let are_judged = fields_of(alloc, checker, fields, said.kind, ds)?;
+    checker.plain_specifiers(note, said, are_judged);
     Ok(())
 }
 
@@ -328,27 +427,33 @@ fn fields_of<'a>(
 {
     let mut are_judged = true;
     for d in ds {
-        let is_judged = field(alloc, checker, fields, base, d)?;
-        are_judged = are_judged && is_judged;
+        are_judged = field(alloc, checker, fields, base, are_judged, d)?;
     }
     Ok(are_judged)
 }
 
-// A member; whether it is judged.
+// A member; whether it and those before it are judged.
 #[cycle(declare)]
 fn field<'a>(
     alloc: Global,
     checker: &mut Checker<'a>,
     fields: &mut Fields,
     base: Option<TypeId>,
+    are_judged: bool,
     d: &'a Declarator<Counted>,
 ) -> Result<bool, Memory>
     ensures { IfOk result (λ r. (checker.new, (fields.new, r))
-        ≡ spec.field base (view_declarator d.now) fields.old checker.old) }
+        ≡ spec.field base (view_declarator d.now) are_judged fields.old checker.old) }
 {
     let formed = declarator(alloc, checker, base, false, d)?;
     checker.member(alloc, fields, name_of(d), formed)?;
-    Ok(formed.is_judged)
+    Ok(both(are_judged, formed.is_judged))
+}
+
+fn both(a: bool, b: bool) -> bool
+    ensures { result ≡ (a && b) }
+{
+    a && b
 }
 
 // Enumeration constants.
@@ -378,11 +483,25 @@ fn enumerator<'a>(
     ensures { IfOk result (λ r. (checker.new, r) ≡ spec.enumerator (view_constant c.now) next checker.old) }
 {
     let value = optional_constant(alloc, checker, &c.value)?;
+    enumerated(alloc, checker, next, value, c)
+}
+
+// The same, by its value.
+fn enumerated<'a>(
+    alloc: Global,
+    checker: &mut Checker<'a>,
+    next: i128,
+    value: ConstantValue,
+    c: &'a Constant<Counted>,
+) -> Result<i128, Memory>
+    ensures { IfOk result (λ r. (checker.new, r) ≡ spec.enumerated_by (view_constant c.now) next value checker.old) }
+{
     let named = Named {
         note: c.note,
         name: c.name.as_str(),
     };
-    checker.enumerator(alloc, named, place_of(c.note, &c.value), next, value)
+    let place = place_of(c.note, &c.value);
+    checker.enumerator(alloc, named, place, next, value)
 }
 
 // Where a constant's value stands: its expression, or its name.
@@ -438,11 +557,7 @@ pub fn expression<'a>(
 
 // Takes down what the names in an expression name, and makes the types of its type names.
 #[cycle(declare)]
-fn named<'a>(
-    alloc: Global,
-    checker: &mut Checker<'a>,
-    e: &'a Expr<Counted>,
-) -> Result<(), Memory>
+fn named<'a>(alloc: Global, checker: &mut Checker<'a>, e: &'a Expr<Counted>) -> Result<(), Memory>
     ensures { OnOk result (checker.new ≡ spec.named_in (view e.now) checker.old) }
 {
     match e {

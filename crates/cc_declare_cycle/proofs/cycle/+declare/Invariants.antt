@@ -3,11 +3,11 @@ use Rattle.std.specs.Prelude.{pos, true}
 use Rattle.cc_tree.specs.Views.{types_of, specs_of, members_of, declarators_of, constants_of, exprs_of}
 use Rattle.cc_declare.specs.Members.{no_fields}
 use Rattle.cc_declare.specs.Specifying.{nothing_said}
-use Rattle.cc_declare_cycle.specs.Declaring.{parameters, then, said_all, members, fields_of, constants, all_named}
+use Rattle.cc_declare_cycle.specs.Declaring.{parameters, preceded, said_all, members, fields_of, constants, all_named}
 use Rattle.cc_declare_cycle.proofs.cycle.+declare.Given as goal
 
 abbrev pub invariant-parameters-loop-p : goal.invariant-parameters-loop-p
-invariant-parameters-loop-p l = then l.kinds (parameters (types_of (drop l.p-index l.ps)) l.checker) ≡ parameters (types_of l.ps) l.initial.checker
+invariant-parameters-loop-p l = preceded l.kinds (parameters (types_of (drop l.p-index l.ps)) l.checker) ≡ parameters (types_of l.ps) l.initial.checker
 
 abbrev pub invariant-all_said-loop-s : goal.invariant-all_said-loop-s
 invariant-all_said-loop-s l = said_all (specs_of (drop l.s-index l.specs)) l.said l.checker ≡ said_all (specs_of l.specs) nothing_said l.initial.checker
