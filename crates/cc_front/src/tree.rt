@@ -1,6 +1,6 @@
 // The numbered tree of a file.
 ghost use Rattle.std.specs.Prelude.{◌≡◌, ◌≤◌, ◌<◌, ◌^◌, length, OnOk};
-ghost use Rattle.cc_lex.specs.Cut.{IsRefused};
+ghost use Rattle.cc_lex.specs.Spots.{spot_at};
 
 use crate::fault::{Fault, FileFault};
 use cc_base::Spot;
@@ -14,14 +14,22 @@ use std::alloc::Global;
 /// All files together have fewer nodes than this.
 const MOST_NODES: u32 = 1 << 30;
 
+// Where the offset stands. A fault is never past the end, which no clause of `lex` says.
+fn spot_within(bytes: &[u8], offset: u64) -> Spot
+    requires { length bytes.now ≤ 1048576 }
+    ensures { offset ≤ length bytes.now → result ≡ spot_at bytes.now offset }
+{
+    let end = bytes.len() as u64;
+    spot_of(bytes, if offset < end { offset } else { end })
+}
+
 // Why the bytes have no tokens.
 fn lexical(bytes: &[u8], fault: LexFault) -> FileFault
-    requires small { length bytes.now ≤ 1048576 }
-    requires refused { IsRefused bytes.now fault }
+    requires { length bytes.now ≤ 1048576 }
 {
     match fault {
         LexFault::At { offset, rule } => FileFault::At {
-            spot: spot_of(bytes, offset),
+            spot: spot_within(bytes, offset),
             fault: Fault::Lexical(rule),
         },
         LexFault::Memory => FileFault::Memory,
