@@ -71,11 +71,7 @@ fn with_tests(alloc: Global, project: &Project, program: Program) -> Result<Buil
 /// The first step that is refused: file by file its tokens (L1 to L9), its words (C1 to C14), its grammar (`Syntax`,
 /// `TooDeep`), its rules (C15 to C52); then the whole program (K1 to K10), then the tests (B1 to B3). A fault of syntax at a
 /// file's end stands one past its last byte. `Memory` may come at any step.
-pub fn front(
-    alloc: Global,
-    project: &Project,
-    files: &List<Bytes>,
-) -> Result<Built, FrontFault>
+pub fn front(alloc: Global, project: &Project, files: &List<Bytes>) -> Result<Built, FrontFault>
     requires few { length files.now ≤ 64 }
     requires small { All (λ bytes. length bytes ≤ 1048576) files.now }
 {

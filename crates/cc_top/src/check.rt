@@ -130,7 +130,8 @@ fn counts(
     let files = project.files.len();
     let tests = project.tests.len();
     format!(in alloc;
-        "ok components {components} files {files} functions {functions} objects {objects} tests {tests}\n")
+        "ok components {components} files {files} functions {functions} objects {objects} tests {tests}\n"
+    )
 }
 
 // Checks files that are read.

@@ -54,7 +54,6 @@ pub fn read_file<S: Shelf>(alloc: Global, shelf: &mut S, name: &str) -> Result<B
     }
 }
 
-
 // The list with these bytes last.
 fn added(mut list: List<ByteList>, bytes: ByteList) -> Result<List<ByteList>, Memory>
     ensures { IfOk result (λ longer. longer ≡ list ++ bytes ∷ []) }
