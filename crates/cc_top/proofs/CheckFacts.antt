@@ -1,19 +1,17 @@
 -- What is told of the reading of a project's files, and of what is read.
-use Rattle.std.proofs.Common.{◌≡◌, ◌⊎◌, ◌<◌, ◌≤◌, ◌++◌, ℕ, List, [], ◌∷◌, length, Option, Some, None, IfSome, IfErr, OnOk, Result, Ok, Err, inl, inr, refl, sym, ap, ◌∙◌, arith, append_assoc, subst}
+use Rattle.std.proofs.Common.{◌≡◌, ◌<◌, ◌≤◌, ◌++◌, ℕ, List, [], ◌∷◌, length, Option, Some, None, IfSome, IfErr, Result, Ok, Err, inl, inr, refl, sym, ap, ◌∙◌, arith, append_assoc, subst}
 use Rattle.std.proofs.lemmas.List.{append-nil}
 use Rattle.std.specs.FinMap.{get}
 use Rattle.cc_io.specs.Shelf.{Files}
 use Rattle.cc_first.specs.Limit.{limit}
 use Rattle.cc_project.specs.Project.{Project as Checked}
-use Rattle.cc_project.specs.Outcome.{IsFault, IsProject as IsChecked}
+use Rattle.cc_project.specs.Outcome.{IsProject as IsChecked}
 use Rattle.cc_project.specs.WellMade.{file_names_of}
-use Rattle.cc_project.specs.declared.fault.ProjectFault.{ProjectFault}
-use Rattle.cc_project.specs.declared.fault.ProjectFault.TheVariants as fault
 use Rattle.cc_top.proofs.Tells.{Outcome, after_read, names_weaker, tells_weaker}
-use Rattle.cc_top.specs.Answer.{Reply, AfterRead, AfterFiles, OfCheck, OfChecked, refused, done, counts_line}
-use Rattle.cc_top.specs.Holds.{Holds, AllHold, AddsHeld}
+use Rattle.cc_top.specs.Answer.{Reply, AfterRead, AfterFiles, OfCheck, OfChecked, refused}
+use Rattle.cc_top.specs.Holds.{AllHold, AddsHeld}
 use Rattle.cc_top.specs.Reads.{IsReached}
-use Rattle.cc_top.specs.Refusal.{FaultNames, IsOfInput, RefusesOne, RefusesProject, RefusesRead, line_of, status_of, missing_line, long_line, not_toml_line, shape_line}
+use Rattle.cc_top.specs.Refusal.{FaultNames, IsOfInput, RefusesOne, RefusesRead, line_of, status_of, missing_line, long_line}
 use Rattle.cc_top.specs.Tells.{Tells, IsNamedToCheck, reply_of}
 use Rattle.cc_top.specs.declared.refusal.Refusal.{Refusal}
 use Rattle.cc_top.specs.declared.refusal.Refusal.TheVariants as why

@@ -1,5 +1,5 @@
 -- What stands after a put.
-use Rattle.std.proofs.Common.{◌≢◌, ◌⊎◌, ◌<◌, IfSome, inl, inr, arith, ◌≡◌, ℕ, List, length, [], Option, Some, None, OnOk, IsErrOf, Result, Ok, Err, refl, sym, ap, ◌∙◌}
+use Rattle.std.proofs.Common.{◌⊎◌, ◌<◌, IfSome, inl, inr, arith, ◌≡◌, ℕ, List, length, [], Option, Some, None, OnOk, IsErrOf, Result, Ok, Err, refl, sym, ap, ◌∙◌}
 use Rattle.std.specs.Io.KnownBytes.{append_known}
 use Rattle.std.proofs.lemmas.List.{append-nil}
 use Rattle.std.proofs.Math.Seq.{take-length}
@@ -13,9 +13,9 @@ use Rattle.cc_top.specs.Counts.{Counts}
 use Rattle.cc_top.specs.Run.{Answers, SomeEnd}
 use Rattle.cc_top.specs.Answer.{Reply, IsAnswer}
 use Rattle.cc_top.specs.Reads.{Reads}
-use Rattle.cc_top.specs.Refusal.{line_of, status_of, memory_line, usage_line, FaultNames, IsReadFault}
-use Rattle.cc_top.specs.Tells.{reply_of, EndTells, EndReads}
-use Rattle.cc_top.specs.Ends.{End, done, refused, write_fault, memory, write_line, Held, EndCaused}
+use Rattle.cc_top.specs.Refusal.{line_of, status_of, FaultNames, IsReadFault}
+use Rattle.cc_top.specs.Tells.{reply_of, EndTells}
+use Rattle.cc_top.specs.Ends.{done, refused, write_fault, memory, write_line, Held, EndCaused}
 use Rattle.cc_top.specs.Told.{Told, Reported}
 use Rattle.cc_top.specs.declared.refusal.Refusal.{Refusal}
 use Rattle.cc_top.specs.declared.refusal.Refusal.TheVariants as why

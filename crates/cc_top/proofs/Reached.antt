@@ -1,12 +1,10 @@
 -- A file that the reading reaches and that is missing or too long is what is refused.
-use Rattle.std.proofs.Common.{◌≡◌, ◌⊎◌, ◌<◌, ◌≤◌, ℕ, List, [], ◌∷◌, length, Option, Some, None, IfSome, inl, inr, ⊎_elim, refl, sym, ap, ◌∙◌, arith, subst}
-use Rattle.std.specs.FinMap.{get}
+use Rattle.std.proofs.Common.{◌≡◌, ◌≤◌, ℕ, List, [], ◌∷◌, Option, Some, None, IfSome, inl, inr, ⊎_elim, sym, ap, ◌∙◌, arith, subst}
 use Rattle.std.specs.Io.KnownBytes.{append_known}
 use Rattle.cc_top.proofs.EndFacts.{append_known-nil}
 use Rattle.cc_top.specs.Run.{Answers, RefusesReached}
 use Rattle.std.proofs.lemmas.Option.{same_Some}
 use Rattle.cc_io.specs.Shelf.{Files}
-use Rattle.cc_first.specs.Limit.{limit}
 use Rattle.toml.specs.Data.{table}
 use Rattle.cc_project.specs.Order.{shape_fault}
 use Rattle.cc_project.specs.Project.{Project as Checked, project_of}

@@ -7,12 +7,12 @@ use Rattle.cc_io.specs.Shelf.{Files}
 use Rattle.cc_first_runs.specs.Laws.{ListedLeavesNoneOut}
 use Rattle.cc_first_runs.specs.Couplings.{Row}
 use Rattle.cc_first_runs.specs.Program.{Program, IsSite}
-use Rattle.cc_top.specs.Answer.{Reply, refused, done, AfterRead, AfterUnit, OfProgram, OfFiles, OfProject, IsAnswer}
+use Rattle.cc_top.specs.Answer.{Reply, refused, AfterRead, AfterUnit, OfProgram, OfFiles, OfProject, IsAnswer}
 use Rattle.cc_top.specs.Holds.{Holds}
 use Rattle.cc_top.specs.Refusal.{missing_line, long_line}
 use Rattle.cc_first.specs.Listing.{AreLines, IsListing, header, line}
 use Rattle.cc_first.specs.Project.{Project, IsProject}
-use Rattle.cc_top.specs.Sound.{CoversRuns, HasLine, Listed}
+use Rattle.cc_top.specs.Sound.{CoversRuns, Listed}
 use Rattle.cc_first.specs.Unit.{Part, IsUnit, program_of}
 use Rattle.cc_first.specs.Limit.{limit}
 use Rattle.cc_top.specs.Words.{check_words, list_words}

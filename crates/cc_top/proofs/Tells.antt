@@ -8,7 +8,6 @@ use Rattle.cc_top.specs.Words.{IsNoCommand, check_words, list_words}
 use Rattle.cc_first.specs.Project.{Project, IsProject}
 use Rattle.cc_first.specs.Unit.{Part, IsUnit, program_of}
 use Rattle.cc_top.specs.Answer.{Reply, AfterRead, OfProgram, OfFiles, OfProject, OfCheck, IsAnswer}
-use Rattle.cc_top.specs.Holds.{Holds}
 use Rattle.cc_top.specs.Reads.{IsFileName, IsReadToCheck, IsReadToList, Reads}
 use Rattle.cc_top.specs.Refusal.{FaultNames, status_of}
 use Rattle.cc_top.specs.Tells.{Tells, IsNamed, IsNamedToCheck}
