@@ -1,5 +1,5 @@
 -- What stands after a put.
-use Rattle.std.proofs.Common.{◌≢◌, ◌⊎◌, ◌<◌, IfSome, inl, inr, arith, ◌≡◌, ℕ, List, length, [], Option, Some, None, OnOk, IsErrOf, Result, Ok, Err, refl, sym, ap, ◌∙◌}
+use Rattle.std.proofs.Common.{◌⊎◌, ◌<◌, IfSome, inl, inr, arith, ◌≡◌, ℕ, List, length, [], Option, Some, None, OnOk, IsErrOf, Result, Ok, Err, refl, sym, ap, ◌∙◌}
 use Rattle.std.specs.Io.KnownBytes.{append_known}
 use Rattle.std.proofs.lemmas.List.{append-nil}
 use Rattle.std.proofs.Math.Seq.{take-length}
@@ -13,9 +13,9 @@ use Rattle.cc_top.specs.Counts.{Counts}
 use Rattle.cc_top.specs.Run.{Answers, SomeEnd}
 use Rattle.cc_top.specs.Answer.{Reply, IsAnswer}
 use Rattle.cc_top.specs.Reads.{Reads}
-use Rattle.cc_top.specs.Refusal.{line_of, status_of, memory_line, usage_line, FaultNames, IsReadFault}
-use Rattle.cc_top.specs.Tells.{reply_of, EndTells, EndReads}
-use Rattle.cc_top.specs.Ends.{End, done, refused, write_fault, memory, write_line, Held, EndCaused}
+use Rattle.cc_top.specs.Refusal.{line_of, status_of, FaultNames, IsReadFault}
+use Rattle.cc_top.specs.Tells.{reply_of, EndTells}
+use Rattle.cc_top.specs.Ends.{done, refused, write_fault, memory, write_line, Held, EndCaused}
 use Rattle.cc_top.specs.Told.{Told, Reported}
 use Rattle.cc_top.specs.declared.refusal.Refusal.{Refusal}
 use Rattle.cc_top.specs.declared.refusal.Refusal.TheVariants as why
@@ -76,11 +76,19 @@ pub end_of_write_fault : (o : Option Files) (words : List (List ℕ)) (text : Li
 end_of_write_fault o words text out out' err err' shelf shelf' told rose prefix line = (write_fault text, record { stands = (refl, rose, prefix, line); caused = tt }, told, nothing_told o words)
 
 of_status_4 : (refusal : Refusal) → status_of refusal ≡ 4 → IsReadFault refusal
-of_status_4 why.Usage e = absurd (omega (arith, e))
 of_status_4 (why.ReadFault name) e = tt
+of_status_4 why.Usage e = absurd (omega (arith, e))
 of_status_4 (why.Missing name) e = absurd (omega (arith, e))
 of_status_4 (why.TooLong name) e = absurd (omega (arith, e))
 of_status_4 (why.Unbuilt name) e = absurd (omega (arith, e))
+of_status_4 (why.NotToml name) e = absurd (omega (arith, e))
+of_status_4 (why.Shape name key rule) e = absurd (omega (arith, e))
+of_status_4 (why.At at) e = absurd (omega (arith, e))
+of_status_4 (why.Entry name rule) e = absurd (omega (arith, e))
+of_status_4 (why.Environment name rule) e = absurd (omega (arith, e))
+of_status_4 (why.Test test call rule) e = absurd (omega (arith, e))
+of_status_4 why.TooManyNodes e = absurd (omega (arith, e))
+of_status_4 why.Internal e = absurd (omega (arith, e))
 of_status_4 why.Memory e = absurd (omega (arith, e))
 
 -- a status 4 of a report has its count
@@ -96,4 +104,43 @@ fault_of_report refusal A B err err' faults faults' result rose reported four =
         | inl whole ↦ absurd (omega (arith, whole.0))
         | inr less ↦ elim less [ inl part ↦ inr part.1 | inr none ↦ absurd (omega (arith, none.0)) ]
       ]
+    ]
+
+of_status_2 : (refusal : Refusal) → status_of refusal ≡ 2 → refusal ≡ why.Usage
+of_status_2 why.Usage e = refl
+of_status_2 (why.ReadFault name) e = absurd (omega (arith, e))
+of_status_2 (why.Missing name) e = absurd (omega (arith, e))
+of_status_2 (why.TooLong name) e = absurd (omega (arith, e))
+of_status_2 (why.Unbuilt name) e = absurd (omega (arith, e))
+of_status_2 (why.NotToml name) e = absurd (omega (arith, e))
+of_status_2 (why.Shape name key rule) e = absurd (omega (arith, e))
+of_status_2 (why.At at) e = absurd (omega (arith, e))
+of_status_2 (why.Entry name rule) e = absurd (omega (arith, e))
+of_status_2 (why.Environment name rule) e = absurd (omega (arith, e))
+of_status_2 (why.Test test call rule) e = absurd (omega (arith, e))
+of_status_2 why.TooManyNodes e = absurd (omega (arith, e))
+of_status_2 why.Internal e = absurd (omega (arith, e))
+of_status_2 why.Memory e = absurd (omega (arith, e))
+
+-- a status 2 of a report is that of the usage line
+pub usage_of_report : (refusal : Refusal) (N : Type 0) (err err' : Option (List ℕ)) (faults faults' result : ℕ) → (refusal ≡ why.Usage → N)
+    → Reported (line_of refusal) (status_of refusal) err err' faults faults' result → result ≡ 2 → N
+usage_of_report refusal N err err' faults faults' result usage reported two =
+    elim reported [
+      | inl first ↦ elim first [
+        | inl whole ↦ usage (of_status_2 refusal (sym whole.0 ∙ two))
+        | inr less ↦ elim less [ inl part ↦ absurd (omega (arith, part.0, two)) | inr none ↦ absurd (omega (arith, none.0, two)) ]
+      ]
+      | inr second ↦ elim second [
+        | inl whole ↦ absurd (omega (arith, whole.0, two))
+        | inr less ↦ elim less [ inl part ↦ absurd (omega (arith, part.0, two)) | inr none ↦ absurd (omega (arith, none.0, two)) ]
+      ]
+    ]
+
+-- a line whose status isn't 0 leaves none that is
+pub told_is_high : (line : List ℕ) (status : ℕ) (old new : Option (List ℕ)) (faults faults' result : ℕ) → 0 < status → Told line status old new faults faults' result → 0 < result
+told_is_high line status old new faults faults' result high told =
+    elim told [
+      | inl whole ↦ omega (arith, whole.0, high)
+      | inr less ↦ elim less [ inl part ↦ omega (arith, part.0) | inr none ↦ omega (arith, none.0) ]
     ]

@@ -1,3 +1,4 @@
+pub mod CheckFacts
 pub mod EndFacts
 pub mod Reached
 pub mod Sound

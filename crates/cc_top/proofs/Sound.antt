@@ -7,14 +7,15 @@ use Rattle.cc_io.specs.Shelf.{Files}
 use Rattle.cc_first_runs.specs.Laws.{ListedLeavesNoneOut}
 use Rattle.cc_first_runs.specs.Couplings.{Row}
 use Rattle.cc_first_runs.specs.Program.{Program, IsSite}
-use Rattle.cc_top.specs.Answer.{Reply, refused, done, AfterRead, AfterUnit, OfProgram, OfFiles, OfProject, IsAnswer, Holds}
+use Rattle.cc_top.specs.Answer.{Reply, refused, AfterRead, AfterUnit, OfProgram, OfFiles, OfProject, IsAnswer}
+use Rattle.cc_top.specs.Holds.{Holds}
 use Rattle.cc_top.specs.Refusal.{missing_line, long_line}
 use Rattle.cc_first.specs.Listing.{AreLines, IsListing, header, line}
 use Rattle.cc_first.specs.Project.{Project, IsProject}
-use Rattle.cc_top.specs.Sound.{CoversRuns, HasLine, Listed}
+use Rattle.cc_top.specs.Sound.{CoversRuns, Listed}
 use Rattle.cc_first.specs.Unit.{Part, IsUnit, program_of}
 use Rattle.cc_first.specs.Limit.{limit}
-use Rattle.cc_top.specs.Words.{list_words}
+use Rattle.cc_top.specs.Words.{check_words, list_words}
 use Rattle.cc_top.specs.Run.{Answers, Covers}
 
 -- a reply of status 0 is no refusal
@@ -89,11 +90,15 @@ table_of_project words files name bytes reply well named is_held (inr p) =
     let two = held files project.second.file (λ other. OfFiles name project one.0 other) reply well one.2 in
     table_of_files words files name bytes project one.0 two.0 reply well named is_held p.1 one.1 two.1 two.2
 
-table_of : (words : List (List ℕ)) (files : Files) (reply : Reply) → reply.status ≡ 0 → IsAnswer words files reply → Table words files reply
-table_of words files reply well (inl p) = not_refused reply _ 2 (omega arith) well p.1
-table_of words files reply well (inr p) =
+other_words : {A : Type 0} (p q : List ℕ) → list_words p ≡ check_words q → A
+other_words p q e = absurd (let f = e in cc)
+
+table_of : (words : List (List ℕ)) (files : Files) (name : List ℕ) (reply : Reply) → words ≡ list_words name → reply.status ≡ 0 → IsAnswer words files reply → Table words files reply
+table_of words files name reply lists well (inl p) = not_refused reply _ 2 (omega arith) well p.1
+table_of words files name reply lists well (inr (inl p)) =
     let one = held files p.0 (OfProject files p.0) reply well p.2 in
     table_of_project words files p.0 one.0 reply well p.1 one.1 one.2
+table_of words files name reply lists well (inr (inr p)) = other_words name p.0 (sym lists ∙ p.1)
 
 -- the line of a row stands behind the lines of the rows before it, of which the first has this number
 record IsLineIn (project : Project) (program : Program) (number : ℕ) (row : Row) (text : List ℕ) : Type 0 where
@@ -142,13 +147,13 @@ covers law project program entry text listing = λ calls are turns row exercised
 pub sound_answer : ListedLeavesNoneOut → (o : Option Files) (words : List (List ℕ)) (out out' err err' : Option (List ℕ)) (result : ℕ)
     → IfSome o (λ files. Answers words files out out' err err' result) → IfSome o (λ files. Covers words files out out' result)
 sound_answer law None words out out' err err' result answered = tt
-sound_answer law (Some files) words out out' err err' result answered = λ well.
+sound_answer law (Some files) words out out' err err' result answered = λ name lists well.
     let of = answered (omega (arith, well)) in
-    let table = table_of words files of.0 (sym of.2 ∙ well) of.1 in
+    let table = table_of words files name of.0 lists (sym of.2 ∙ well) of.1 in
     let listed = table.2 in
     (table.0, of.3 ∙ ap (append_known out) table.1, listed, covers law listed.project (program_of listed.parts listed.others) listed.entry table.0 listed.listing)
 
 -- a status that is not 0 covers nothing
 pub sound_refusal : (o : Option Files) (words : List (List ℕ)) (out out' : Option (List ℕ)) (result : ℕ) → 0 < result → IfSome o (λ files. Covers words files out out' result)
 sound_refusal None words out out' result high = tt
-sound_refusal (Some files) words out out' result high = λ well. absurd (omega (arith, well, high))
+sound_refusal (Some files) words out out' result high = λ name lists well. absurd (omega (arith, well, high))

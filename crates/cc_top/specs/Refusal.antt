@@ -1,10 +1,18 @@
 -- A refusal's line and status, and where it comes.
-use Rattle.std.specs.Prelude.{◌≡◌, ◌<◌, ◌++◌, ℕ, List, length, codes, Some, None}
+use Rattle.std.specs.Prelude.{◌≡◌, ◌⊎◌, ◌<◌, ◌+◌, ◌++◌, ℕ, List, [], ◌∷◌, length, codes, Some, None}
 use Rattle.std.specs.FinMap.{get}
+use Rattle.std.specs.Fmt.{decimal}
+use Rattle.cc_front.specs.declared.fault.Fault.{Fault}
+use Rattle.cc_front.specs.declared.fault.Fault.TheVariants as fault
 use Rattle.cc_io.specs.Shelf.{Files}
 use Rattle.cc_first.specs.Limit.{limit}
+use Rattle.cc_top.specs.Holds.{Holds}
+use Rattle.cc_project.specs.declared.fault.ProjectFault.{ProjectFault}
+use Rattle.cc_project.specs.declared.fault.ProjectFault.TheVariants as why
+use Rattle.cc_top.specs.declared.refusal.At.{At}
 use Rattle.cc_top.specs.declared.refusal.Refusal.{Refusal}
-use Rattle.cc_top.specs.declared.refusal.Refusal.TheVariants.{Usage, ReadFault, Missing, TooLong, Unbuilt, Memory}
+use Rattle.cc_top.specs.declared.refusal.Refusal.TheVariants.{Usage, ReadFault, Missing, TooLong, Unbuilt, NotToml, Shape, Entry, Environment, Test, TooManyNodes, Internal, Memory}
+use Rattle.cc_top.specs.declared.refusal.Refusal.TheVariants as refusal
 
 abbrev pub usage_line : List ℕ
 usage_line = codes "usage: coupling check|list|score|tests|pairs P | gen N\n"
@@ -21,6 +29,35 @@ unbuilt_line name = name ++ codes ": form not built yet\n"
 abbrev pub memory_line : List ℕ
 memory_line = codes "out of memory\n"
 
+abbrev pub not_toml_line : List ℕ → List ℕ
+not_toml_line name = name ++ codes ": not TOML\n"
+
+-- a rule of the project file that fails at a key
+abbrev pub shape_line : (name key : List ℕ) (rule : ℕ) → List ℕ
+shape_line name key rule = name ++ (codes ": J" ++ (decimal rule ++ (codes " " ++ (key ++ codes "\n"))))
+
+-- what is wrong at a place
+abbrev pub fault_text : Fault → List ℕ
+fault_text (fault.Lexical rule) = codes "lexical L" ++ decimal rule
+fault_text fault.Syntax = codes "syntax"
+fault_text fault.TooDeep = codes "too deep"
+fault_text (fault.Offence rule) = codes "offence C" ++ decimal rule
+fault_text (fault.Link rule) = codes "link K" ++ decimal rule
+
+-- `file:line:column: what`
+abbrev pub at_line : At → List ℕ
+at_line at = at.file ++ (codes ":" ++ (decimal at.spot.line ++ (codes ":" ++ (decimal at.spot.column ++ (codes ": " ++ (fault_text at.fault ++ codes "\n"))))))
+
+abbrev pub entry_line : (name : List ℕ) (rule : ℕ) → List ℕ
+entry_line name rule = codes "entry " ++ (name ++ (codes ": link K" ++ (decimal rule ++ codes "\n")))
+
+abbrev pub environment_line : (name : List ℕ) (rule : ℕ) → List ℕ
+environment_line name rule = codes "environment " ++ (name ++ (codes ": link K" ++ (decimal rule ++ codes "\n")))
+
+-- the line of a call, which it counts from 1
+abbrev pub test_line : (test : List ℕ) (call rule : ℕ) → List ℕ
+test_line test call rule = codes "test " ++ (test ++ (codes " call " ++ (decimal (call + 1) ++ (codes ": B" ++ (decimal rule ++ codes "\n")))))
+
 -- the line that stands on err
 abbrev pub line_of : Refusal → List ℕ
 line_of Usage = usage_line
@@ -28,15 +65,21 @@ line_of (ReadFault name) = name ++ codes ": read fault\n"
 line_of (Missing name) = missing_line name
 line_of (TooLong name) = long_line name
 line_of (Unbuilt name) = unbuilt_line name
+line_of (NotToml name) = not_toml_line name
+line_of (Shape name key rule) = shape_line name key rule
+line_of (refusal.At at) = at_line at
+line_of (Entry name rule) = entry_line name rule
+line_of (Environment name rule) = environment_line name rule
+line_of (Test test call rule) = test_line test call rule
+line_of TooManyNodes = codes "too many nodes\n"
+line_of Internal = codes "internal: a number without a name\n"
 line_of Memory = memory_line
 
 abbrev pub status_of : Refusal → ℕ
 status_of Usage = 2
 status_of (ReadFault name) = 4
-status_of (Missing name) = 3
-status_of (TooLong name) = 3
-status_of (Unbuilt name) = 3
 status_of Memory = 5
+status_of _ = 3
 
 -- a refusal of this kind
 abbrev pub IsReadFault : Refusal → Type 0
@@ -53,12 +96,11 @@ IsTooLong _ = ⊥
 
 -- a reading of the name may be refused so, over these files
 abbrev pub RefusesRead : Files → List ℕ → Refusal → Type 0
-RefusesRead files name Usage = ⊥
 RefusesRead files name (ReadFault told) = told ≡ name
 RefusesRead files name (Missing told) = (told ≡ name) × (get files name ≡ None)
 RefusesRead files name (TooLong told) = (told ≡ name) × (bytes : List ℕ) × (get files name ≡ Some bytes) × (limit < length bytes)
-RefusesRead files name (Unbuilt told) = ⊥
 RefusesRead files name Memory = Unit {0}
+RefusesRead files name _ = ⊥
 
 -- the form of the named file is refused, or memory was wanting
 abbrev pub RefusesForm : List ℕ → Refusal → Type 0
@@ -76,3 +118,24 @@ abbrev pub IsOfForm : Refusal → Type 0
 IsOfForm (Unbuilt name) = Unit {0}
 IsOfForm Memory = Unit {0}
 IsOfForm _ = ⊥
+
+-- what is read is refused, and no reading; or memory was wanting
+abbrev pub IsOfInput : Refusal → Type 0
+IsOfInput Usage = ⊥
+IsOfInput (ReadFault name) = ⊥
+IsOfInput (Missing name) = ⊥
+IsOfInput (TooLong name) = ⊥
+IsOfInput _ = Unit {0}
+
+-- the reading of these files in their order is refused so
+abbrev pub RefusesOne : Files → List (List ℕ) → Refusal → Type 0
+RefusesOne files [] refused = ⊥
+RefusesOne files (name ∷ names) refused =
+    RefusesRead files name refused ⊎ ((bytes : List ℕ) × Holds files name bytes × RefusesOne files names refused)
+
+-- the bytes of the project file of this name are refused for this fault; or memory was wanting
+abbrev pub RefusesProject : List ℕ → ProjectFault → Refusal → Type 0
+RefusesProject name why.NotToml (NotToml told) = told ≡ name
+RefusesProject name (why.Shape key rule) (Shape told key' rule') = (told ≡ name) × (key' ≡ key) × (rule' ≡ rule)
+RefusesProject name fault Memory = Unit {0}
+RefusesProject name fault _ = ⊥

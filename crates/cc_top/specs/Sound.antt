@@ -6,7 +6,7 @@ use Rattle.cc_first_runs.specs.Laws.{AreCallsOf}
 use Rattle.cc_first_runs.specs.Runs.{run}
 use Rattle.cc_first_runs.specs.Couplings.{Row}
 use Rattle.cc_first_runs.specs.Program.{Program, IsSite}
-use Rattle.cc_top.specs.Answer.{Holds}
+use Rattle.cc_top.specs.Holds.{Holds}
 use Rattle.cc_first.specs.Linked.{IsLinked}
 use Rattle.cc_first.specs.Listing.{AreLines, IsListing, header, line}
 use Rattle.cc_first.specs.Project.{Project, IsProject}

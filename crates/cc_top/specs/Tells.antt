@@ -1,12 +1,16 @@
 -- What a text or a refusal tells of the answer.
-use Rattle.std.specs.Prelude.{◌≡◌, ◌⊎◌, ◌<◌, ℕ, List, Result, Ok, Err, Vec}
+use Rattle.std.specs.Prelude.{◌<◌, ℕ, List, Result, Ok, Err, Vec}
 use Rattle.std.specs.declared.alloc.Global.{Global}
 use Rattle.cc_io.specs.Shelf.{Files}
-use Rattle.cc_top.specs.Answer.{Reply, done, refused, Holds}
+use Rattle.cc_top.specs.Answer.{Reply, done, refused}
 use Rattle.cc_top.specs.Ends.{End, write_fault, memory}
 use Rattle.cc_top.specs.Ends as ends
 use Rattle.cc_first.specs.Project.{Project, IsProject}
 use Rattle.cc_top.specs.Refusal.{line_of, status_of, FaultNames}
+use Rattle.cc_project.specs.Project.{Project as Checked}
+use Rattle.cc_project.specs.Outcome.{IsProject as IsChecked}
+use Rattle.cc_project.specs.WellMade.{file_names_of}
+use Rattle.cc_top.specs.Reads.{IsFileName, IsReached}
 use Rattle.cc_top.specs.declared.refusal.Refusal.{Refusal}
 
 abbrev pub reply_of : Refusal → Reply
@@ -17,14 +21,13 @@ abbrev pub Tells : (Reply → Type 0) → Result (Vec ℕ Global) Refusal → Ty
 Tells P (Ok text) = P (done text.items)
 Tells P (Err refusal) = status_of refusal < 4 → P (reply_of refusal)
 
--- the name is that of the first file, or of the second where the first can be had
-abbrev pub IsFileName : Files → Project → List ℕ → Type 0
-IsFileName files project name =
-    (name ≡ project.first.file) ⊎ ((first : List ℕ) × Holds files project.first.file first × (name ≡ project.second.file))
-
 -- the name is that of a file of the project that the bytes say
 abbrev pub IsNamed : Files → List ℕ → List ℕ → Type 0
 IsNamed files bytes name = (project : Project) × IsProject bytes project × IsFileName files project name
+
+-- the name is that of a file of the project that the bytes say, and those before it can be had
+abbrev pub IsNamedToCheck : Files → List ℕ → List ℕ → Type 0
+IsNamedToCheck files bytes name = (project : Checked) × IsChecked bytes project × IsReached files (file_names_of project.files) name
 
 -- what an end tells of the answer: the text, whole or in part, and a refusal of a status below 4
 abbrev pub EndTells : (Reply → Type 0) → End → Type 0

@@ -1,5 +1,5 @@
 // The top call.
-ghost use Rattle.std.specs.Prelude.{◌≡◌, ◌≢◌, ◌⊎◌, ◌<◌, ℕ, List, IfSome, map, string_bytes};
+ghost use Rattle.std.specs.Prelude.{◌≡◌, ◌⊎◌, ◌<◌, IfSome, map, string_bytes};
 ghost use Rattle.cc_io.specs.Count.{Rose};
 ghost use Rattle.cc_io.specs.Sink.{GrowsByPrefix};
 ghost use Rattle.cc_top.specs.Counts.{counts_of};
@@ -7,7 +7,7 @@ ghost use Rattle.cc_top.specs.Ends.{held_of};
 ghost use Rattle.cc_top.specs.Refusal.{line_of, memory_line, status_of, usage_line};
 ghost use Rattle.cc_top.specs.Run.{Answers, Covers, RefusesReached, SomeEnd};
 ghost use Rattle.cc_top.specs.Told.{Reported, Told};
-ghost use Rattle.cc_top.specs.Words.{list_words};
+ghost use Rattle.cc_top.specs.Words.{IsNoCommand};
 
 use crate::refusal::Refusal;
 use crate::steps::text_for;
@@ -73,7 +73,7 @@ pub fn run<S: Shelf, K: Sink, E: Sink>(
         RefusesReached (map string_bytes words.now) files
         (K.held out.old) (K.held out.new) (E.held err.old) (E.held err.new) result) }
 
-    // Soundness: where the status is 0, an out that tells its bytes has the table of a program that the files make, and each
+    // Soundness of `list`: where the status is 0, an out that tells its bytes has the table of a program that the files make, and each
     // call coupling that any run of this program exercises, whatever calls of the entry and turns, has its line in it.
     ensures sound { IfSome (S.files shelf.old) (λ files. Covers (map string_bytes words.now) files
         (K.held out.old) (K.held out.new) result) }
@@ -97,12 +97,11 @@ pub fn run<S: Shelf, K: Sink, E: Sink>(
     ensures keeps { S.files shelf.new ≡ S.files shelf.old }
 
     // Words that are no command read nothing, whatever the shelf is.
-    ensures usage { ((project : List ℕ) → map string_bytes words.now ≢ list_words project) →
+    ensures usage { IsNoCommand (map string_bytes words.now) →
         (shelf.new ≡ shelf.old) × (out.new ≡ out.old)
         × Reported usage_line 2 (E.held err.old) (E.held err.new)
         (E.faults err.old) (E.faults err.new) result }
-    ensures not_usage { result ≡ 2 → (project : List ℕ)
-        → map string_bytes words.now ≢ list_words project }
+    ensures not_usage { result ≡ 2 → IsNoCommand (map string_bytes words.now) }
 {
     // The law that `sound` rests on.
     listed_leaves_none_out();

@@ -7,7 +7,10 @@
 #![tactic(auto)]
 
 mod call;
+mod check;
+mod reading;
 mod refusal;
 mod steps;
+mod words;
 
 pub use call::run;

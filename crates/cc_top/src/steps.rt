@@ -3,51 +3,25 @@
 // Each step that reads the shelf says this: the files stay (`keeps`), no count falls (`none_falls`), a refusal to read
 // comes only where its count rose (`caused`), and over a shelf that tells its files what the text or the refusal stands
 // for is what the definitions allow (`told`), and a read fault names a file that they read (`names`).
-ghost use Rattle.std.specs.Prelude.{◌≡◌, ◌≢◌, ◌↔◌, ◌≤◌, ◌<◌, ℕ, List, Err, Some, IfErr, IfNone, IfOk, IfSome, length, map, string_bytes};
-ghost use Rattle.std.specs.FinMap.{get};
-ghost use Rattle.cc_top.specs.Answer.{AfterRead, IsAnswer, OfFiles, OfProgram, OfProject};
-ghost use Rattle.cc_top.specs.Reads.{Reads};
+ghost use Rattle.std.specs.Prelude.{◌≡◌, ◌≢◌, ◌↔◌, ◌≤◌, ◌<◌, List, Err, IfErr, IfOk, IfSome, length, map, string_bytes};
+ghost use Rattle.cc_top.specs.Answer.{AfterRead, IsAnswer, OfCheck, OfFiles, OfProgram, OfProject};
+ghost use Rattle.cc_top.specs.Reads.{IsFileName, IsReadToCheck, IsReadToList, Reads};
 ghost use Rattle.cc_first.specs.Project.{IsProject, IsWell, Project as ProjectData};
 ghost use Rattle.cc_top.specs.Counts.{Caused, NoneFalls, counts_of};
-ghost use Rattle.cc_top.specs.Refusal.{FaultNames, IsOfForm, RefusesForm, RefusesRead, status_of};
-ghost use Rattle.cc_top.specs.Tells.{IsFileName, IsNamed, Tells};
+ghost use Rattle.cc_top.specs.Refusal.{FaultNames, IsOfForm, RefusesForm, status_of};
+ghost use Rattle.cc_top.specs.Tells.{IsNamed, Tells};
 ghost use Rattle.cc_first.specs.Unit.{HaveFreeNames, IsUnit, Part as PartData, program_of};
 ghost use Rattle.cc_first.specs.Views.{parts_view, project_view};
 ghost use Rattle.cc_first.specs.Limit.{limit};
-ghost use Rattle.cc_top.specs.Words.{list_words};
+ghost use Rattle.cc_top.specs.Words.{IsNoCommand};
 
+use crate::check::document_checked;
+use crate::reading::{read_file, text_of};
 use crate::refusal::Refusal;
-use cc_base::Text;
-use cc_first::{LIMIT, Part, Project, read_document, read_project, read_unit, table};
-use cc_io::{ByteList, Found, Shelf, ShelfFault};
-use std::alloc::{AllocError, Global};
-
-// The word after `list`, if there are these two.
-fn project_word(words: &[String]) -> Option<&str>
-    ensures some { IfSome result (λ project. map string_bytes words.now ≡ list_words project.now) }
-    ensures none { IfNone result ((project : List ℕ) → map string_bytes words.now ≢ list_words project) }
-{
-    let mut words = words.iter();
-    let Some(command) = words.next() else {
-        return None;
-    };
-    let Some(project) = words.next() else {
-        return None;
-    };
-    if words.next().is_some() {
-        return None;
-    }
-    if command.as_str() != "list" {
-        return None;
-    }
-    Some(project.as_str())
-}
-
-fn text_of(alloc: Global, name: &str) -> Result<Text, AllocError>
-    ensures { IfOk result (λ text. text ≡ name.now) }
-{
-    Ok(Text::new(String::from_str(alloc, name)?))
-}
+use crate::words::{Command, command_of};
+use cc_first::{Part, Project, read_document, read_project, read_unit, table};
+use cc_io::Shelf;
+use std::alloc::Global;
 
 // The file's form is refused.
 fn unbuilt(alloc: Global, name: &str) -> Refusal
@@ -56,39 +30,6 @@ fn unbuilt(alloc: Global, name: &str) -> Refusal
     match text_of(alloc, name) {
         Ok(name) => Refusal::Unbuilt(name),
         Err(_) => Refusal::Memory,
-    }
-}
-
-// A file of at most LIMIT bytes, or why it can't be had.
-fn read_file<S: Shelf>(alloc: Global, shelf: &mut S, name: &str) -> Result<ByteList, Refusal>
-    ensures keeps { S.files shelf.new ≡ S.files shelf.old }
-    ensures none_falls { NoneFalls (counts_of (S.faults shelf.old) (S.misses shelf.old) (S.longs shelf.old))
-        (counts_of (S.faults shelf.new) (S.misses shelf.new) (S.longs shelf.new)) }
-
-    ensures within { IfOk result (λ bytes. length bytes ≤ limit) }
-    ensures held { IfSome (S.files shelf.old) (λ files. IfOk result (λ bytes. get files name.now ≡ Some bytes)) }
-    ensures refused { IfSome (S.files shelf.old) (λ files. IfErr result (RefusesRead files name.now)) }
-
-    ensures caused { IfErr result (Caused (counts_of (S.faults shelf.old) (S.misses shelf.old) (S.longs shelf.old))
-        (counts_of (S.faults shelf.new) (S.misses shelf.new) (S.longs shelf.new))) }
-    ensures kind { IfErr result (λ refusal. status_of refusal ≢ 2) }
-    ensures names { IfErr result (FaultNames (λ told. told ≡ name.now)) }
-{
-    match shelf.read(alloc, name, LIMIT) {
-        Ok(Found::File(bytes)) => Ok(bytes),
-        Ok(Found::Absent) => Err(match text_of(alloc, name) {
-            Ok(name) => Refusal::Missing(name),
-            Err(_) => Refusal::Memory,
-        }),
-        Ok(Found::Long) => Err(match text_of(alloc, name) {
-            Ok(name) => Refusal::TooLong(name),
-            Err(_) => Refusal::Memory,
-        }),
-        Err(ShelfFault::Failed) => Err(match text_of(alloc, name) {
-            Ok(name) => Refusal::ReadFault(name),
-            Err(_) => Refusal::Memory,
-        }),
-        Err(ShelfFault::Memory) => Err(Refusal::Memory),
     }
 }
 
@@ -232,6 +173,40 @@ fn document_listing<S: Shelf>(
     }
 }
 
+// The table of the project of this name.
+fn listed<S: Shelf>(alloc: Global, shelf: &mut S, name: &str) -> Result<Vec<u8>, Refusal>
+    ensures keeps { S.files shelf.new ≡ S.files shelf.old }
+    ensures none_falls { NoneFalls (counts_of (S.faults shelf.old) (S.misses shelf.old) (S.longs shelf.old))
+        (counts_of (S.faults shelf.new) (S.misses shelf.new) (S.longs shelf.new)) }
+    ensures told { IfSome (S.files shelf.old) (λ files. Tells (AfterRead files name.now (OfProject files name.now)) result) }
+    ensures caused { IfErr result (Caused (counts_of (S.faults shelf.old) (S.misses shelf.old) (S.longs shelf.old))
+        (counts_of (S.faults shelf.new) (S.misses shelf.new) (S.longs shelf.new))) }
+    ensures kind { IfErr result (λ refusal. status_of refusal ≢ 2) }
+    ensures names { IfSome (S.files shelf.old) (λ files. IfErr result (FaultNames (IsReadToList files name.now))) }
+{
+    match read_file(alloc, shelf, name) {
+        Ok(file) => document_listing(alloc, shelf, name, file.bytes()),
+        Err(refusal) => Err(refusal),
+    }
+}
+
+// The counts of the project of this name.
+fn checked<S: Shelf>(alloc: Global, shelf: &mut S, name: &str) -> Result<Vec<u8>, Refusal>
+    ensures keeps { S.files shelf.new ≡ S.files shelf.old }
+    ensures none_falls { NoneFalls (counts_of (S.faults shelf.old) (S.misses shelf.old) (S.longs shelf.old))
+        (counts_of (S.faults shelf.new) (S.misses shelf.new) (S.longs shelf.new)) }
+    ensures told { IfSome (S.files shelf.old) (λ files. Tells (AfterRead files name.now (OfCheck files name.now)) result) }
+    ensures caused { IfErr result (Caused (counts_of (S.faults shelf.old) (S.misses shelf.old) (S.longs shelf.old))
+        (counts_of (S.faults shelf.new) (S.misses shelf.new) (S.longs shelf.new))) }
+    ensures kind { IfErr result (λ refusal. status_of refusal ≢ 2) }
+    ensures names { IfSome (S.files shelf.old) (λ files. IfErr result (FaultNames (IsReadToCheck files name.now))) }
+{
+    match read_file(alloc, shelf, name) {
+        Ok(file) => document_checked(alloc, shelf, name, file.bytes()),
+        Err(refusal) => Err(refusal),
+    }
+}
+
 /// The text for the words, or why there is none.
 pub fn text_for<S: Shelf>(
     alloc: Global,
@@ -248,15 +223,12 @@ pub fn text_for<S: Shelf>(
         (counts_of (S.faults shelf.new) (S.misses shelf.new) (S.longs shelf.new))) }
     ensures names { IfSome (S.files shelf.old) (λ files. IfErr result
         (FaultNames (Reads (map string_bytes words.now) files))) }
-    ensures usage { (result ≡ Err Refusal.Usage)
-        ↔ ((project : List ℕ) → map string_bytes words.now ≢ list_words project) }
+    ensures usage { (result ≡ Err Refusal.Usage) ↔ IsNoCommand (map string_bytes words.now) }
     ensures untouched { result ≡ Err Refusal.Usage → shelf.new ≡ shelf.old }
 {
-    let Some(project) = project_word(words) else {
-        return Err(Refusal::Usage);
-    };
-    match read_file(alloc, shelf, project) {
-        Ok(file) => document_listing(alloc, shelf, project, file.bytes()),
-        Err(refusal) => Err(refusal),
+    match command_of(words) {
+        Some(Command::List(project)) => listed(alloc, shelf, project),
+        Some(Command::Check(project)) => checked(alloc, shelf, project),
+        None => Err(Refusal::Usage),
     }
 }

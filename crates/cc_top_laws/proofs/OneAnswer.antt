@@ -7,14 +7,14 @@ use Rattle.std.proofs.lemmas.Bool.{cases_eq}
 use Rattle.cc_io.specs.Shelf.{Files}
 use Rattle.cc_first_runs.specs.Program.{Function, Program}
 use Rattle.cc_first.specs.Limit.{limit}
-use Rattle.cc_top.specs.Words.{list_words}
+use Rattle.cc_top.specs.Words.{IsNoCommand, check_words, list_words}
 use Rattle.cc_first.specs.Project.{Project}
 use Rattle.cc_first.specs.Unit.{Part, program_of}
 use Rattle.cc_first.specs.Linked.{IsWhole, IsEntry, heads_of}
 use Rattle.cc_first.specs.Listing.{IsListing}
 use Rattle.cc_top_laws.specs.Laws.{OneUnit, OneAnswer}
-use Rattle.cc_top.specs.Refusal.{missing_line, long_line}
-use Rattle.cc_top.specs.Answer.{Reply, refused, done, AfterRead, AfterUnit, OfProgram, OfFiles, OfProject}
+use Rattle.cc_top.specs.Refusal.{missing_line, long_line, usage_line}
+use Rattle.cc_top.specs.Answer.{Reply, refused, done, AfterRead, AfterUnit, OfProgram, OfFiles, OfProject, IsAnswer}
 use Rattle.cc_top_laws.proofs.OneListing.{one_listing}
 use Rattle.cc_first.proofs.OneProject.{same_project}
 
@@ -105,15 +105,28 @@ one_of_project one_unit files name bytes a b x y =
 same_word : (p q : List ℕ) → list_words p ≡ list_words q → p ≡ q
 same_word p q e = cc
 
+other_words : {A : Type 0} (p q : List ℕ) → list_words p ≡ check_words q → A
+other_words p q e = absurd (let f = e in cc)
+
+one_listed : OneUnit → (words : List (List ℕ)) (files : Files) (name : List ℕ) (a b : Reply) → words ≡ list_words name → AfterRead files name (OfProject files name) a → IsAnswer words files b → a ≡ b
+one_listed one_unit words files name a b is x (inl q) = absurd ((q.0 name).0 is)
+one_listed one_unit words files name a b is x (inr (inl q)) =
+    let same : name ≡ q.0 = same_word name q.0 (sym is ∙ q.1) in
+    let of : AfterRead files q.0 (OfProject files q.0) a = subst (λ n. AfterRead files n (OfProject files n) a) same x in
+    one_read q.0 (OfProject files q.0) a b (λ bytes. one_of_project one_unit files q.0 bytes a b) (get files q.0) of q.2
+one_listed one_unit words files name a b is x (inr (inr q)) = other_words name q.0 (sym is ∙ q.1)
+
+one_usage : (words : List (List ℕ)) (files : Files) (a b : Reply) → IsNoCommand words → a ≡ refused usage_line 2 → IsAnswer words files b → a ≡ b
+one_usage words files a b none is (inl q) = is ∙ sym q.1
+one_usage words files a b none is (inr (inl q)) = absurd ((none q.0).0 q.1)
+one_usage words files a b none is (inr (inr q)) = absurd ((none q.0).1 q.1)
+
 pub one_answer : OneUnit → OneAnswer
-one_answer one_unit words files a b x y =
+one_answer one_unit words other files a b x y =
     elim x [
-      | inl p ↦ elim y [ inl q ↦ p.1 ∙ sym q.1 | inr q ↦ absurd (p.0 q.0 q.1) ]
-      | inr p ↦ elim y [
-        | inl q ↦ absurd (q.0 p.0 p.1)
-        | inr q ↦
-            let same : p.0 ≡ q.0 = same_word p.0 q.0 (sym p.1 ∙ q.1) in
-            let of : AfterRead files q.0 (OfProject files q.0) a = subst (λ name. AfterRead files name (OfProject files name) a) same p.2 in
-            one_read q.0 (OfProject files q.0) a b (λ bytes. one_of_project one_unit files q.0 bytes a b) (get files q.0) of q.2
+      | inl p ↦ one_usage words files a b p.0 p.1 y
+      | inr q ↦ elim q [
+        | inl p ↦ one_listed one_unit words files p.0 a b p.1 p.2 y
+        | inr p ↦ absurd (other p.0 p.1)
       ]
     ]

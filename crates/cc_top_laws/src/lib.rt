@@ -1,5 +1,5 @@
-//! Laws of the definitions that the top call answers by: bytes spell at most one file of the first form, and words have
-//! at most one answer over files.
+//! Laws of the definitions that the top call answers by: bytes spell at most one file of the first form, and words
+//! other than those of `check` have at most one answer over files.
 #![tactic(auto)]
 
 ghost use Rattle.cc_top_laws.specs.Laws.{OneAnswer, OneUnit};
@@ -9,7 +9,7 @@ pub fn one_unit()
     ensures { OneUnit }
 {}
 
-/// Words have at most one answer over files.
+/// Words other than those of `check` have at most one answer over files.
 pub fn one_answer()
     ensures { OneAnswer }
 {}

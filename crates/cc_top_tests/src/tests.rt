@@ -143,9 +143,10 @@ fn refused_projects(rt: HostRuntime) -> Result<(), Fail> {
 fn words(rt: HostRuntime) -> Result<(), Fail> {
     let mut shelf = SureShelf::new(rt.alloc());
     shelf.add("p.toml", PROJECT.as_bytes())?;
-    let cases: [&[&str]; 5] = [
+    let cases: [&[&str]; 6] = [
         &[],
         &["list"],
+        &["check"],
         &["list", "a", "b"],
         &["gen", "0"],
         &["draw", "p.toml"],
@@ -178,6 +179,51 @@ fn files(rt: HostRuntime) -> Result<(), Fail> {
         assert!(rt;
             answers(rt.alloc(), &["list", project], &mut shelf, "", err, 3)?,
             "{project}"
+        );
+    }
+    Ok(())
+}
+
+// Whole C files: two files of one component each, a test, and what is counted of them.
+#[test]
+fn counts(rt: HostRuntime) -> Result<(), Fail> {
+    let mut shelf = SureShelf::new(rt.alloc());
+    let project = format!(in rt.alloc();
+        "{PROJECT}[[test]]\nname = \"T\"\nturns = 9\ncalls = [[\"f\", 300]]\n"
+    )?;
+    shelf.add("p.toml", project.as_bytes())?;
+    shelf.add(
+        "b.c",
+        b"static int n; int *g(void) { static int m; return n ? &m : &n; }",
+    )?;
+    let cases = [
+        (
+            "int f(short x) { return x; }",
+            "ok components 2 files 2 functions 2 objects 2 tests 1\n",
+            "",
+            0,
+        ),
+        ("int f(char x) { return x; }", "", "test T call 1: B3\n", 3),
+        (
+            "int f(int x) { return y; }",
+            "",
+            "a.c:1:23: offence C35\n",
+            3,
+        ),
+        ("int f(int x) { return x;", "", "a.c:1:25: syntax\n", 3),
+    ];
+    for (a, out, err, status) in cases {
+        shelf.add("a.c", a.as_bytes())?;
+        assert!(rt;
+            answers(
+                rt.alloc(),
+                &["check", "p.toml"],
+                &mut shelf,
+                out,
+                err,
+                status
+            )?,
+            "{a}"
         );
     }
     Ok(())

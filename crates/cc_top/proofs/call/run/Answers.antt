@@ -3,7 +3,8 @@ use Rattle.std.specs.Io.KnownBytes.{append_known}
 use Rattle.cc_io.specs.declared.sink.SinkFault.TheVariants.{Failed}
 use Rattle.cc_top.proofs.Sound.{sound_answer, sound_refusal}
 use Rattle.cc_top.proofs.Reached.{reached_answer, reached_fault}
-use Rattle.cc_top.proofs.EndFacts.{answered_report, answered_text, end_of_report, end_of_text, end_of_write_fault, fault_of_report}
+use Rattle.cc_top.proofs.EndFacts.{answered_report, answered_text, end_of_report, end_of_text, end_of_write_fault, fault_of_report, told_is_high, usage_of_report}
+use Rattle.cc_top.specs.Words.{IsNoCommand}
 use Rattle.cc_top.proofs.call.run.Goals as goal
 
 pub returns-in-Err-clause-told : goal.returns-in-Err-clause-told
@@ -67,3 +68,12 @@ returns-in-Ok-put-clause-sound g c =
 
 pub returns-in-Err-Failed-clause-sound : goal.returns-in-Err-Failed-clause-sound
 returns-in-Err-Failed-clause-sound g c = sound_refusal (g.S.Shelf.files c.args.shelf.now) (map string_bytes c.args.words.now) _ _ 4 (omega arith)
+
+pub returns-clause-sound : goal.returns-clause-sound
+returns-clause-sound g c =
+    sound_refusal (g.S.Shelf.files c.args.shelf.now) (map string_bytes c.args.words.now) _ _ c.tell_memory.result (told_is_high _ 5 _ _ _ _ c.tell_memory.result (omega arith) c.tell_memory.ensures)
+
+pub returns-in-Err-clause-not_usage : goal.returns-in-Err-clause-not_usage
+returns-in-Err-clause-not_usage g c = λ two.
+    usage_of_report c.in-Err.refusal (IsNoCommand (map string_bytes c.args.words.now)) (g.E.Sink.held c.args.err.now) (g.E.Sink.held c.report.new.err)
+    (g.E.Sink.faults c.args.err.now) (g.E.Sink.faults c.report.new.err) c.report.result (λ is. c.in-Err.ensures.usage.0 (ap Err is)) c.report.ensures two

@@ -1,20 +1,34 @@
-use Rattle.std.proofs.Common.{map, string_bytes}
-use Rattle.cc_top.proofs.Tells.{words_told, words_names, project_names_itself}
+use Rattle.std.proofs.Common.{◌≡◌, map, string_bytes}
+use Rattle.cc_top.proofs.Tells.{listed_told, listed_usage, checked_told, checked_usage, reads_to_list, reads_to_check}
+use Rattle.cc_top.specs.Words.{check_words, list_words}
 use Rattle.cc_top.proofs.steps.text_for.Goals as goal
 
-pub returns-in-Ok-clause-told : goal.returns-in-Ok-clause-told
-returns-in-Ok-clause-told g c =
-    let told = rw (c.read_file.ensures.keeps, c.bytes.ensures) at c.document_listing.ensures.told in
-    words_told (g.S.Shelf.files c.args.shelf.now) (map string_bytes c.args.words.now) c.in-Some.project.now c.in-Ok.file c.document_listing.result
-    c.in-Some.ensures.some c.in-Ok.ensures.within c.in-Ok.ensures.held told
+pub returns-in-Some-List-clause-told : goal.returns-in-Some-List-clause-told
+returns-in-Some-List-clause-told g c =
+    let asks : map string_bytes c.args.words.now ≡ list_words c.in-Some-List.project.now = rw c.in-Some-List.field-0-is at c.in-Some-List.ensures.some in
+    listed_told (g.S.Shelf.files c.args.shelf.now) (map string_bytes c.args.words.now) c.in-Some-List.project.now c.listed.result asks c.listed.ensures.told
 
-pub returns-in-Ok-clause-names : goal.returns-in-Ok-clause-names
-returns-in-Ok-clause-names g c =
-    let names = rw (c.read_file.ensures.keeps, c.bytes.ensures) at c.document_listing.ensures.names in
-    words_names (g.S.Shelf.files c.args.shelf.now) (map string_bytes c.args.words.now) c.in-Some.project.now c.in-Ok.file c.document_listing.result
-    c.in-Some.ensures.some c.in-Ok.ensures.within c.in-Ok.ensures.held names
+pub returns-in-Some-List-clause-names : goal.returns-in-Some-List-clause-names
+returns-in-Some-List-clause-names g c =
+    let asks : map string_bytes c.args.words.now ≡ list_words c.in-Some-List.project.now = rw c.in-Some-List.field-0-is at c.in-Some-List.ensures.some in
+    reads_to_list (g.S.Shelf.files c.args.shelf.now) (map string_bytes c.args.words.now) c.in-Some-List.project.now c.listed.result asks c.listed.ensures.names
 
-pub returns-in-Err-clause-names : goal.returns-in-Err-clause-names
-returns-in-Err-clause-names g c =
-    project_names_itself (g.S.Shelf.files c.args.shelf.now) (map string_bytes c.args.words.now) c.in-Some.project.now c.in-Err.refusal
-    c.in-Some.ensures.some c.in-Err.ensures.names
+pub returns-in-Some-List-clause-usage : goal.returns-in-Some-List-clause-usage
+returns-in-Some-List-clause-usage g c =
+    let asks : map string_bytes c.args.words.now ≡ list_words c.in-Some-List.project.now = rw c.in-Some-List.field-0-is at c.in-Some-List.ensures.some in
+    listed_usage (map string_bytes c.args.words.now) c.in-Some-List.project.now c.listed.result asks c.listed.ensures.kind
+
+pub returns-in-Some-Check-clause-told : goal.returns-in-Some-Check-clause-told
+returns-in-Some-Check-clause-told g c =
+    let asks : map string_bytes c.args.words.now ≡ check_words c.in-Some-Check.project.now = rw c.in-Some-Check.field-0-is at c.in-Some-Check.ensures.some in
+    checked_told (g.S.Shelf.files c.args.shelf.now) (map string_bytes c.args.words.now) c.in-Some-Check.project.now c.checked.result asks c.checked.ensures.told
+
+pub returns-in-Some-Check-clause-names : goal.returns-in-Some-Check-clause-names
+returns-in-Some-Check-clause-names g c =
+    let asks : map string_bytes c.args.words.now ≡ check_words c.in-Some-Check.project.now = rw c.in-Some-Check.field-0-is at c.in-Some-Check.ensures.some in
+    reads_to_check (g.S.Shelf.files c.args.shelf.now) (map string_bytes c.args.words.now) c.in-Some-Check.project.now c.checked.result asks c.checked.ensures.names
+
+pub returns-in-Some-Check-clause-usage : goal.returns-in-Some-Check-clause-usage
+returns-in-Some-Check-clause-usage g c =
+    let asks : map string_bytes c.args.words.now ≡ check_words c.in-Some-Check.project.now = rw c.in-Some-Check.field-0-is at c.in-Some-Check.ensures.some in
+    checked_usage (map string_bytes c.args.words.now) c.in-Some-Check.project.now c.checked.result asks c.checked.ensures.kind

@@ -1,0 +1,10 @@
+pub mod Linkages
+pub mod Storing
+pub mod Giving
+pub mod Outers
+pub mod Inners
+pub mod Declarations
+pub mod Labelling
+pub mod Statements
+pub mod Functions
+pub mod Files
