@@ -134,6 +134,21 @@ fn counts(
     )
 }
 
+// How many functions and static objects the program of files that are read defines.
+fn numbers(
+    alloc: Global,
+    project: &Project,
+    files: &List<ByteList>,
+) -> Result<(u32, u32), FrontFault>
+    requires few { length files.now ≤ 64 }
+    requires short { All IsShort files.now }
+{
+    match front(alloc, project, files) {
+        Ok(built) => Ok((built.defined_functions(), built.static_objects())),
+        Err(fault) => Err(fault),
+    }
+}
+
 // Checks files that are read.
 fn files_checked(
     alloc: Global,
@@ -145,12 +160,8 @@ fn files_checked(
     ensures told { Tells (OfChecked project.now files.now) result }
     ensures input { IfErr result IsOfInput }
 {
-    match front(alloc, project, files) {
-        Ok(built) => {
-            let functions = built.defined_functions();
-            let objects = built.static_objects();
-            Ok(counts(alloc, project, functions, objects)?.into_bytes())
-        }
+    match numbers(alloc, project, files) {
+        Ok((functions, objects)) => Ok(counts(alloc, project, functions, objects)?.into_bytes()),
         Err(fault) => Err(of_front(alloc, project, fault)),
     }
 }
