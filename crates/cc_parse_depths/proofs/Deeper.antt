@@ -23,18 +23,19 @@ abbrev pub Never : {A : Type 0} → A → List Token → Type 0
 Never x r = ⊥
 
 -- it goes no farther than to the tokens
-abbrev pub Halts : {B : Type 0} → (B → List Token → Type 0) → Outcome B → List Token → Type 0
-Halts {B} T o r = (o ≡ Err r) ⊎ ((y : B) × (o ≡ Ok (y, r)) × T y r)
+pub data Halts {B : Type 0} (T : B → List Token → Type 0) : Outcome B → List Token → Type 0 where
+  refuses : (r : List Token) → Halts T (Err r) r
+  halts_with : (y : B) (r : List Token) → T y r → Halts T (Ok (y, r)) r
 
 pub halts_is : {B : Type 0} {T : B → List Token → Type 0} {o p : Outcome B} {r : List Token} → o ≡ p → Halts T p r → Halts T o r
 halts_is {B} {T} {o} {p} {r} e h = subst (λ z. Halts T z r) (sym e) h
 
 pub halts_bind : {A B : Type 0} {S : A → List Token → Type 0} {T : B → List Token → Type 0} (o : Outcome A) (f : A → Parser B) (r : List Token) → Halts S o r → ((x : A) → S x r → Halts T (f x r) r) → Halts T (and_then o f) r
-halts_bind {A} {B} {S} {T} o f r (inl e) h = subst (λ z. Halts T (and_then z f) r) (sym e) (inl refl)
-halts_bind {A} {B} {S} {T} o f r (inr y) h = subst (λ z. Halts T (and_then z f) r) (sym y.1) (h y.0 y.2)
+halts_bind _ f _ (refuses r) h = refuses r
+halts_bind _ f _ (halts_with x r s) h = h x s
 
 pub halts_map : {A B : Type 0} {S : A → List Token → Type 0} {T : B → List Token → Type 0} (o : Outcome A) (f : A → B) (r : List Token) → Halts S o r → ((x : A) → S x r → T (f x) r) → Halts T (and_then o (λ x. pure (f x))) r
-halts_map o f r a h = halts_bind o (λ x. pure (f x)) r a (λ x s. inr (f x, refl, h x s))
+halts_map o f r a h = halts_bind o (λ x. pure (f x)) r a (λ x s. halts_with (f x) r (h x s))
 
 -- what another reader does is read
 pub halts_else : {B : Type 0} {T : B → List Token → Type 0} (test : List Token → Bool) (p q : Parser B) (r : List Token) → test r ≡ false → Halts T (q r) r → Halts T (where_next test p q r) r
@@ -51,8 +52,8 @@ bind_shrinks (Ok x) g h = h x.0 x.1
 bind_shrinks (Err r) g h = omega arith
 
 halted : {B : Type 0} {T : B → List Token → Type 0} (o m p : Outcome B) (r : List Token) → length (left m) < length r → Halts T o r → Steps T o m p
-halted {B} {T} o m p r lt (inl e) = subst (λ z. Steps T z m p) (sym e) (refused r m p lt)
-halted {B} {T} o m p r lt (inr h) = subst (λ z. Steps T z m p) (sym h.1) (stopped h.0 r m p h.2 lt)
+halted _ m p _ lt (refuses r) = refused r m p lt
+halted _ m p _ lt (halts_with y r t) = stopped y r m p t lt
 
 pub steps_then : {A B : Type 0} {S : A → List Token → Type 0} {T : B → List Token → Type 0} (o m p : Outcome A) (f g h : A → Parser B) → Steps S o m p → ((x : A) (r : List Token) → o ≡ Ok (x, r) → Steps T (f x r) (g x r) (h x r))
     → ((x : A) → Shrinks (g x)) → ((x : A) (r : List Token) → S x r → Halts T (f x r) r) → Steps T (and_then o f) (and_then m g) (and_then p h)
@@ -73,9 +74,9 @@ steps_weak h (stopped x r m p s lt) = stopped x r m p (h x r s) lt
 pub steps_same : {A : Type 0} {S : A → List Token → Type 0} {o m p : Outcome A} → m ≡ o → p ≡ o → Steps S o m p
 steps_same {A} {S} {o} {m} {p} x y = steps_are {o = o} refl x y (alike o)
 
-pub steps_branch : {A : Type 0} {S : A → List Token → Type 0} (b : Bool) {p q s u v w : Parser A} {ts : List Token} → (b ≡ true → Steps S (p ts) (q ts) (s ts)) → (b ≡ false → Steps S (u ts) (v ts) (w ts)) → Steps S (branch b p u ts) (branch b q v ts) (branch b s w ts)
-steps_branch true x y = x refl
-steps_branch false x y = y refl
+pub steps_branch : {A : Type 0} {S : A → List Token → Type 0} (b : Bool) (p q s u v w : Parser A) (ts : List Token) → (b ≡ true → Steps S (p ts) (q ts) (s ts)) → (b ≡ false → Steps S (u ts) (v ts) (w ts)) → Steps S (branch b p u ts) (branch b q v ts) (branch b s w ts)
+steps_branch true p q s u v w ts x y = x refl
+steps_branch false p q s u v w ts x y = y refl
 
 -- ---- Readers
 
@@ -90,7 +91,7 @@ deep_same {A} {S} {p} h = record { steps = λ ts. alike (p ts); shrinks = h }
 pub deep_pure : {A : Type 0} {S : A → List Token → Type 0} (x : A) → Deeper S (pure x) (pure x) (pure x)
 deep_pure x = deep_same (λ ts. omega arith)
 
-pub deep_refuse : {A : Type 0} {S : A → List Token → Type 0} → Deeper S (refuse {A}) refuse refuse
+pub deep_refuse : {A : Type 0} {S : A → List Token → Type 0} → Deeper S (refuse {A = A}) refuse refuse
 deep_refuse = deep_same (λ ts. omega arith)
 
 pub deep_weak : {A : Type 0} {S T : A → List Token → Type 0} {p q s : Parser A} → ((x : A) (r : List Token) → S x r → T x r) → Deeper S p q s → Deeper T p q s
@@ -111,7 +112,7 @@ pub deep_bind : {A B : Type 0} {T : B → List Token → Type 0} {p q s : Parser
 deep_bind d e = deep_then d e (λ x r n. absurd n)
 
 pub deep_map : {A B : Type 0} {S : A → List Token → Type 0} {T : B → List Token → Type 0} {p q s : Parser A} (f : A → B) → Deeper S p q s → ((x : A) (r : List Token) → S x r → T (f x) r) → Deeper T (f <$> p) (f <$> q) (f <$> s)
-deep_map f d h = deep_then d (λ x. deep_pure (f x)) (λ x r s. inr (f x, refl, h x r s))
+deep_map f d h = deep_then d (λ x. deep_pure (f x)) (λ x r s. halts_with (f x) r (h x r s))
 
 pub deep_map_never : {A B : Type 0} {T : B → List Token → Type 0} {p q s : Parser A} (f : A → B) → Deeper Never p q s → Deeper T (f <$> p) (f <$> q) (f <$> s)
 deep_map_never f d = deep_map f d (λ x r n. absurd n)

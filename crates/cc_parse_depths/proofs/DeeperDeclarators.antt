@@ -28,7 +28,7 @@ use Rattle.cc_parse_laws.proofs.SoundDeclarators.{Direct, suffix_sound, direct_s
 use Rattle.cc_parse_laws.proofs.Climbs.{not_zero, bound}
 use Rattle.cc_parse_places.proofs.Forks.{left}
 use Rattle.cc_parse_places.proofs.Spent.{at_kind}
-use Rattle.cc_parse_depths.proofs.Deeper.{Steps, alike, refused, stopped, Never, Halts, halts_is, Shrinks, skip_shrinks, bind_shrinks, steps_then, steps_are, steps_same, Deeper, deep_same, deep_pure, deep_refuse, deep_weak, deep_never, deep_then, deep_bind, deep_map, deep_map_never, deep_skipping, deep_view, deep_placed, deep_where, deep_branch}
+use Rattle.cc_parse_depths.proofs.Deeper.{Steps, alike, refused, stopped, Never, Halts, refuses, halts_with, Shrinks, skip_shrinks, bind_shrinks, steps_then, steps_are, steps_same, Deeper, deep_same, deep_pure, deep_refuse, deep_weak, deep_never, deep_then, deep_bind, deep_map, deep_map_never, deep_skipping, deep_view, deep_placed, deep_where, deep_branch}
 use Rattle.cc_parse_depths.proofs.DeeperLists.{deep_take, deep_until, deep_id, deep_turns, no_take, halts_take, unbound, deep_tests}
 use Rattle.cc_parse_depths.proofs.DeeperExpressions.{DeepInner, Further, deep_parameters}
 use Rattle.cc_parse_depths.proofs.Openings.{same_readers, next_shorter}
@@ -157,8 +157,8 @@ module _ (names : Names) (p q s : Inner) (a b c : ℕ) (good : DeepInner p q s) 
   written_halts f r h = by (outlines.is_written f)
     where
       by : (k : Bool) → Halts (λ g. Further) (reader.branch k (pure f) refuse r) r
-      by true = inr (f, refl, h)
-      by false = inl refl
+      by true = halts_with f r h
+      by false = refuses r
 
   pub deep_in_group : (mode : Mode) (n : Spot) → Deeper Never (in_group names mode n p a) (in_group names mode n q b) (in_group names mode n s c)
   deep_in_group mode n =

@@ -27,7 +27,7 @@ use Rattle.cc_parse_laws.proofs.SoundExpressions.{prefix_sound}
 use Rattle.cc_parse_laws.proofs.Climbs.{goes_on_is, not_zero, bound}
 use Rattle.cc_parse_places.proofs.Forks.{left}
 use Rattle.cc_parse_places.proofs.Spent.{HasNext}
-use Rattle.cc_parse_depths.proofs.Deeper.{Steps, alike, refused, stopped, Never, Halts, Shrinks, skip_shrinks, bind_shrinks, steps_then, steps_are, steps_same, steps_branch, Deeper, deep_same, deep_pure, deep_refuse, deep_weak, deep_never, deep_then, deep_bind, deep_map, deep_map_never, deep_skipping, deep_view, deep_placed, deep_where}
+use Rattle.cc_parse_depths.proofs.Deeper.{Steps, alike, refused, stopped, Never, Halts, halts_with, halts_is, Shrinks, skip_shrinks, bind_shrinks, steps_then, steps_are, steps_same, steps_branch, Deeper, deep_same, deep_pure, deep_refuse, deep_weak, deep_never, deep_then, deep_bind, deep_map, deep_map_never, deep_skipping, deep_view, deep_placed, deep_where}
 use Rattle.cc_parse_depths.proofs.DeeperLists.{deep_take, deep_until, deep_id, halts_take, Binding, unbound, binding_some, deep_separated, deep_repeated, behind_first}
 
 -- a token comes that can stand in a declarator, or begin one, and so none that can stand behind one
@@ -165,7 +165,7 @@ module _ (names : Names) (p q s : Inner) (a b c : ℕ) (good : DeepInner p q s) 
       by (reader.goes_on names q b least e (tail ts)) (omega (arith, go, skip_shrinks ts))
     where
       by : (g : Bool) → length (left (and_then (reader.go_on names q b e (tail ts) (spot ts) (skip ts)) (reader.climb names q b least turns))) ≤ length ts
-          → length (left (branch g (λ us. and_then (reader.go_on names q b e (tail us) (spot us) (skip us)) (reader.climb names q b least turns)) (pure e) ts)) ≤ length ts
+          → length (left (reader.branch g (λ us. and_then (reader.go_on names q b e (tail us) (spot us) (skip us)) (reader.climb names q b least turns)) (pure e) ts)) ≤ length ts
       by true go = go
       by false go = omega arith
 
@@ -285,7 +285,7 @@ module _ (names : Names) (p q s : Inner) (d f : ℕ) (deeper : d ≤ f) (good : 
       (steps_then _ _ _ (reader.climb names p (suc d) least t) (reader.climb names q (suc (suc (suc d))) least (suc (suc t))) (reader.climb names s (suc f) least u) (go.steps (skip ts))
       (λ x r is. rec x r (climb_sound names p d sound least 1 e first ts (x, r) made (climb_goes names p (suc d) least 0 e ts fit low ∙ bound (reader.climb names p (suc d) least 0) (reader.go_on names p (suc d) e (tail ts) (spot ts) (skip ts)) x r is)))
       (climb_shrinks names p q s (suc d) (suc (suc (suc d))) (suc f) good least (suc (suc t)))
-      (λ x r h. inr (x, climb_halts names p (suc d) least t x r (too_loose least x (tail r) h.loose), omega (arith, binding, h.binding))))
+      (λ x r h. halts_is (climb_halts names p (suc d) least t x r (too_loose least x (tail r) h.loose)) (halts_with x r (omega (arith, binding, h.binding)))))
 
   climb_steps : (least : ℕ) → 0 < least → (t u : ℕ) → t ≤ u → (e : ExprTree Spot) (first ts : List Token) → Made names p d sound least first (e, ts) → Climbing least t u e ts
   climb_steps least some zero u low e first ts made = by (fits least e (tail ts)) refl
@@ -323,7 +323,7 @@ module _ (names : Names) (p q s : Inner) (d f : ℕ) (deeper : d ≤ f) (good : 
       steps_then _ _ _ (reader.climb names p (suc d) least (suc d)) (reader.climb names q (suc (suc (suc d))) least (suc (suc (suc d)))) (reader.climb names s (suc f) least (suc f)) (first.steps ts)
       (λ x r is. climb_steps least some (suc d) (suc f) (omega (arith, deeper)) x ts r (prefix_sound names p d sound least (start ts) ts (x, r) refl low is))
       (climb_shrinks names p q s (suc d) (suc (suc (suc d))) (suc f) good least (suc (suc (suc d))))
-      (λ x r h. inr (x, climb_halts names p (suc d) least (suc d) x r (too_loose least x (tail r) h.loose), omega (arith, low, h.binding)))
+      (λ x r h. halts_is (climb_halts names p (suc d) least (suc d) x r (too_loose least x (tail r) h.loose)) (halts_with x r (omega (arith, low, h.binding))))
 
   read_shrinks : DeepSized → (least : ℕ) → Shrinks (read_by q (suc (suc d)) least)
   read_shrinks sized least ts =

@@ -9,13 +9,13 @@ use Rattle.cc_tree.specs.Trees.{ExprTree, SpecTrees, DeclTree, ValueTree, single
 use Rattle.cc_tree.specs.Views.{gathered_values, gathered_items}
 use Rattle.cc_grammar.specs.Names.{Names, has_typedef, after_declarator, after_start, after_stmt, after_item, after_external}
 use Rattle.cc_grammar.specs.Classes.{next_is, next_is_keyword, skip, spot, starts_spec, StmtStart, begins_block, begins_empty, begins_if, begins_switch, begins_while, begins_do, begins_for, begins_break, begins_continue, begins_return, begins_case, begins_default, begins_other, stmt_start}
-use Rattle.cc_grammar.specs.Outcomes.{Outcome, Parser, and_then, pure, refuse, take, ◌<$>◌, ◌>>=◌, ◌>>◌}
+use Rattle.cc_grammar.specs.Outcomes.{Outcome, Parser, and_then, pure, refuse, take, take_keyword, ◌<$>◌, ◌>>=◌, ◌>>◌}
 use Rattle.cc_grammar.specs.Reading as reader
 use Rattle.cc_grammar.specs.Reading.{with_name, where_next, skipping, placed, enclosed, readers}
 use Rattle.cc_parse_laws.proofs.Steps.{branch_true, branch_false}
 use Rattle.cc_parse_laws.proofs.Lists.{takes}
 use Rattle.cc_parse_places.proofs.Forks.{left}
-use Rattle.cc_parse_depths.proofs.Deeper.{Steps, alike, refused, Never, Halts, halts_is, halts_bind, halts_map, halts_else, Shrinks, bind_shrinks, skip_shrinks, steps_then, steps_are, steps_same, steps_branch, Deeper, deep_same, deep_pure, deep_refuse, deep_never, deep_then, deep_bind, deep_map, deep_map_never, deep_skipping, deep_view, deep_placed, deep_where}
+use Rattle.cc_parse_depths.proofs.Deeper.{Steps, alike, refused, Never, Halts, refuses, halts_with, halts_is, halts_bind, halts_map, halts_else, Shrinks, bind_shrinks, skip_shrinks, steps_then, steps_are, steps_same, steps_branch, Deeper, deep_same, deep_pure, deep_refuse, deep_never, deep_then, deep_bind, deep_map, deep_map_never, deep_skipping, deep_view, deep_placed, deep_where}
 use Rattle.cc_parse_depths.proofs.DeeperLists.{deep_take, deep_take_keyword, deep_until, deep_turns, no_take, halts_take, Binding, unbound, deep_enclosed, deep_enclosed_behind}
 use Rattle.cc_parse_depths.proofs.DeeperExpressions.{DeepInner, Further}
 use Rattle.cc_parse_depths.proofs.DeeperDeclarators.{punct_some}
@@ -43,14 +43,14 @@ module _ (names : Names) where
   value_shrinks (suc d) ts = let all = deep_where {S = Never} (next_is the_punct.LeftBrace) (same_braces d (value_shrinks d)) (deep_same {p = no_braces names (suc d)} (plain_shrinks (suc d))) in all.shrinks ts
     where
       same_braces : (d : ℕ) → Shrinks (reader.value names d) → Deeper Never (in_braces names d) (in_braces names d) (in_braces names d)
-      same_braces d h = deep_placed (λ n. deep_map_never (λ (vs : List (ValueTree Spot) × Bool). braces n (gathered_values vs.0) vs.1) (deep_enclosed (Binding 2) comma_binds (deep_same h) (λ r b. unbound the_punct.RightBrace 2 r (omega arith) b)))
+      same_braces d h = deep_placed (λ n. deep_map_never (λ (vs : List (ValueTree Spot) × Bool). braces n (gathered_values vs.0) vs.1) (deep_enclosed (Binding 2) {p = reader.value names d} {q = reader.value names d} {s = reader.value names d} comma_binds (deep_same h) (λ r b. unbound the_punct.RightBrace 2 r (omega arith) b)))
 
       plain_shrinks : (d : ℕ) → Shrinks (no_braces names d)
       plain_shrinks d us = omega (arith, expr_shrinks names d 2 (omega arith) (omega arith) us, bind_shrinks ((readers names d).expr 2 us) (λ x. pure (single x)) (λ x vs. omega arith))
 
   braces_taken : (d : ℕ) (ts : List Token) → next_is the_punct.LeftBrace ts ≡ true → length (left (reader.value names (suc d) ts)) < length ts
   braces_taken d ts e =
-      let all = deep_enclosed_behind {p = reader.value names d} {q = reader.value names d} {s = reader.value names d} (Binding 2) comma_binds (deep_same (value_shrinks d)) (λ r b. unbound the_punct.RightBrace 2 r (omega arith) b) in
+      let all = deep_enclosed_behind (Binding 2) {p = reader.value names d} {q = reader.value names d} {s = reader.value names d} comma_binds (deep_same (value_shrinks d)) (λ r b. unbound the_punct.RightBrace 2 r (omega arith) b) in
       let is : reader.value names (suc d) ts ≡ and_then (reader.enclosed_by (reader.value names d) (length (skip ts)) (skip ts)) (λ vs. pure (braces (spot ts) (gathered_values vs.0) vs.1)) =
           branch_true (next_is the_punct.LeftBrace ts) (in_braces names d) (no_braces names (suc d)) ts e
           ∙ ap (λ o. and_then (and_then o (λ z us. reader.enclosed_by (reader.value names d) (length us) us)) (λ vs. pure (braces (spot ts) (gathered_values vs.0) vs.1))) (takes the_punct.LeftBrace ts e) in
@@ -108,12 +108,12 @@ behind_value d typedef turns names e v = where_next (next_is the_punct.Comma)
 
 -- where a token comes that goes on with a declarator
 pub inits_halt : (d : ℕ) (typedef : Bool) (turns : ℕ) (names : Names) (e : DeclTree Spot) (r : List Token) → Further r → Halts (λ is. Unended) (reader.inits_behind d typedef turns names e r) r
-inits_halt d typedef zero names e r h = inl refl
+inits_halt d typedef zero names e r h = refuses r
 inits_halt d typedef (suc turns) names e r h =
     let known = after_declarator typedef e names in
     halts_bind {S = λ v. Further} (reader.given known d r) (behind_value d typedef turns known e) r
-    (halts_else (next_is the_punct.Equal) (skipping (Some <$> reader.value known d)) (pure None) r h.no_equal (inr (None, refl, h)))
-    (λ v g. halts_else (next_is the_punct.Comma) _ (pure (init e v ∷ [])) r g.no_comma (inr (init e v ∷ [], refl, g.no_semicolon)))
+    (halts_else (next_is the_punct.Equal) (skipping (Some <$> reader.value known d)) (pure None) r h.no_equal (halts_with None r h))
+    (λ v g. halts_else (next_is the_punct.Comma) _ (pure (init e v ∷ [])) r g.no_comma (halts_with (init e v ∷ []) r g.no_semicolon))
 
 module _ (a b c : ℕ) (good : DeepDepths a b c) where
   deep_expr : (names : Names) (least : ℕ) → 0 < least → least ≤ 15 → Deeper (λ e. Binding least) ((readers names a).expr least) ((readers names b).expr least) ((readers names c).expr least)
@@ -137,7 +137,7 @@ module _ (a b c : ℕ) (good : DeepDepths a b c) where
       (deep_skipping (deep_then (deep_named known) (λ g. deep_map (λ is. init e v ∷ is) (deep_inits_behind typedef turns known g) (λ is r u. u))
       (λ g r k. halts_map (reader.inits_behind a typedef turns known g r) (λ is. init e v ∷ is) r (inits_halt a typedef turns known g r k) (λ is u. u))))
       (deep_pure (init e v ∷ [])))
-      (λ v r h. halts_else (next_is the_punct.Comma) _ (pure (init e v ∷ [])) r (comma_binds r h) (inr (init e v ∷ [], refl, unbound the_punct.Semicolon 2 r (omega arith) h)))
+      (λ v r h. halts_else (next_is the_punct.Comma) _ (pure (init e v ∷ [])) r (comma_binds r h) (halts_with (init e v ∷ []) r (unbound the_punct.Semicolon 2 r (omega arith) h)))
 
   pub deep_inits : (typedef : Bool) (names : Names) (e : DeclTree Spot) → Deeper (λ is. Unended) (reader.inits a typedef names e) (reader.inits b typedef names e) (reader.inits c typedef names e)
   deep_inits typedef names e = deep_turns suc (λ turns. deep_inits_behind typedef turns names e)
@@ -177,7 +177,7 @@ only_block_shrinks (continue n) ts = omega arith
 only_block_shrinks (return n e) ts = omega arith
 
 halts_take_two : {A B : Type 0} {T : B → List Token → Type 0} (s : Punct) (f : Unit {0} → Parser A) (g : A → Parser B) (r : List Token) → next_is s r ≡ false → Halts T (and_then (and_then (take s r) f) g) r
-halts_take_two s f g r e = inl (ap (λ z. and_then (and_then z f) g) (no_take s r e))
+halts_take_two s f g r e = halts_is (ap (λ z. and_then (and_then z f) g) (no_take s r e)) (refuses r)
 
 counted_shrinks : {A : Type 0} (one : ℕ → Parser A) → ((e : ℕ) → Shrinks (one e)) → (d : ℕ) → Shrinks (reader.counted_by d one)
 counted_shrinks one h zero ts = omega arith
@@ -306,7 +306,7 @@ module _ (x y z : Names → Parser (StmtTree Spot)) (a b c : ℕ) (good : DeepDe
   deep_where_spec : {A : Type 0} (g : DeclarationTree Spot → A) (names : Names) {u v w : Parser A} → Deeper Never u v w
       → Deeper Never (where_next (starts_spec names) (reader.counted_by a (spec_at g names)) u) (where_next (starts_spec names) (reader.counted_by b (spec_at g names)) v) (where_next (starts_spec names) (reader.counted_by c (spec_at g names)) w)
   deep_where_spec g names {u} {v} {w} others = record {
-    steps = λ ts. steps_branch (starts_spec names ts) (λ e. counted.at_spec g names ts e) (λ e. others.steps ts);
+    steps = λ ts. steps_branch (starts_spec names ts) _ _ _ u v w ts (λ e. counted.at_spec g names ts e) (λ e. others.steps ts);
     shrinks = λ ts. branch_shrinks (starts_spec names ts) (reader.counted_by b (spec_at g names)) v ts (spec_shrinks g names ts) (others.shrinks ts);
   }
 

@@ -14,7 +14,7 @@ use Rattle.cc_grammar.specs.Reading.{branch, where_next, skipping}
 use Rattle.cc_parse_laws.proofs.Peeks.{punct_tail}
 use Rattle.cc_parse_places.proofs.Forks.{left}
 use Rattle.cc_parse_places.proofs.Spent.{HasNext}
-use Rattle.cc_parse_depths.proofs.Deeper.{Steps, steps_are, Never, Halts, halts_is, halts_else, Shrinks, skip_shrinks, bind_shrinks, Deeper, deep_same, deep_pure, deep_refuse, deep_then, deep_bind, deep_map, deep_map_never, deep_skipping, deep_view, deep_where}
+use Rattle.cc_parse_depths.proofs.Deeper.{Steps, steps_are, Never, Halts, refuses, halts_with, halts_is, halts_else, Shrinks, skip_shrinks, bind_shrinks, Deeper, deep_same, deep_pure, deep_refuse, deep_then, deep_bind, deep_map, deep_map_never, deep_skipping, deep_view, deep_where}
 
 -- ---- Tokens
 
@@ -52,7 +52,7 @@ pub no_take : (s : Punct) (ts : List Token) → next_is s ts ≡ false → take 
 no_take s ts e = rw e refl
 
 pub halts_take : {A : Type 0} {T : A → List Token → Type 0} (s : Punct) (f : Unit {0} → Parser A) (r : List Token) → next_is s r ≡ false → Halts T (and_then (take s r) f) r
-halts_take s f r e = inl (ap (λ z. and_then z f) (no_take s r e))
+halts_take s f r e = halts_is (ap (λ z. and_then z f) (no_take s r e)) (refuses r)
 
 -- the next token binds as tightly as this
 abbrev pub Binding : ℕ → List Token → Type 0
@@ -82,7 +82,7 @@ module _ {A : Type 0} (P : List Token → Type 0) {p q s : Parser A} where
     deep_separated_by zero = deep_refuse
     deep_separated_by (suc turns) =
         deep_then one (λ x. deep_where (next_is the_punct.Comma) (deep_skipping (deep_map (λ xs. x ∷ xs) (deep_separated_by turns) (λ xs r h. h))) (deep_pure (x ∷ [])))
-        (λ x r h. halts_else (next_is the_punct.Comma) _ _ r (no_comma r h) (inr (x ∷ [], refl, h)))
+        (λ x r h. halts_else (next_is the_punct.Comma) _ _ r (no_comma r h) (halts_with (x ∷ []) r h))
 
     pub deep_separated : Deeper (λ xs. P) (reader.separated p) (reader.separated q) (reader.separated s)
     deep_separated = deep_turns (λ n. n) deep_separated_by
@@ -106,14 +106,14 @@ module _ {A : Type 0} (P : List Token → Type 0) {p q s : Parser A} where
 
 -- by tests that say the same
 module _ (a b c : List Token → Bool) (ab : (ts : List Token) → b ts ≡ a ts) (ac : (ts : List Token) → c ts ≡ a ts) where
-  steps_tests : {B : Type 0} {S : B → List Token → Type 0} {p q s u v w : Parser B} (ts : List Token) → Steps S (where_next a p u ts) (where_next a q v ts) (where_next a s w ts) → Steps S (where_next a p u ts) (where_next b q v ts) (where_next c s w ts)
-  steps_tests {B} {S} {p} {q} {s} {u} {v} {w} ts h = steps_are {a = where_next a p u ts} refl (ap (λ z. branch z q v ts) (ab ts)) (ap (λ z. branch z s w ts) (ac ts)) h
+  steps_tests : {B : Type 0} {S : B → List Token → Type 0} (p q s u v w : Parser B) (ts : List Token) → Steps S (where_next a p u ts) (where_next a q v ts) (where_next a s w ts) → Steps S (where_next a p u ts) (where_next b q v ts) (where_next c s w ts)
+  steps_tests p q s u v w ts h = steps_are {a = where_next a p u ts} refl (ap (λ z. branch z q v ts) (ab ts)) (ap (λ z. branch z s w ts) (ac ts)) h
 
-  test_shrinks : {B : Type 0} {q v : Parser B} (ts : List Token) → length (left (where_next a q v ts)) ≤ length ts → length (left (where_next b q v ts)) ≤ length ts
-  test_shrinks {B} {q} {v} ts h = subst (λ z. length (left (branch z q v ts)) ≤ length ts) (sym (ab ts)) h
+  test_shrinks : {B : Type 0} (q v : Parser B) (ts : List Token) → length (left (where_next a q v ts)) ≤ length ts → length (left (where_next b q v ts)) ≤ length ts
+  test_shrinks q v ts h = subst (λ z. length (left (branch z q v ts)) ≤ length ts) (sym (ab ts)) h
 
   pub deep_tests : {B : Type 0} {S : B → List Token → Type 0} {p q s u v w : Parser B} → Deeper S p q s → Deeper S u v w → Deeper S (where_next a p u) (where_next b q v) (where_next c s w)
-  deep_tests x y = let d = deep_where a x y in record { steps = λ ts. steps_tests ts (d.steps ts); shrinks = λ ts. test_shrinks ts (d.shrinks ts) }
+  deep_tests {B} {S} {p} {q} {s} {u} {v} {w} x y = let d = deep_where a x y in record { steps = λ ts. steps_tests p q s u v w ts (d.steps ts); shrinks = λ ts. test_shrinks q v ts (d.shrinks ts) }
 
   -- as long as others begin
   module _ {A : Type 0} {p q s : Parser A} (one : Deeper Never p q s) where

@@ -1,5 +1,5 @@
 -- What is read to its end is a cut-off file, and so the first tokens of one are one too.
-use Rattle.std.proofs.Common.{◌≡◌, ◌-◌, ◌+◌, ◌≤◌, refl, ℕ, List, [], ◌∷◌, ◌++◌, length, take, Ok, Err, arith, sym, ap, subst, ◌∙◌, append_assoc, append-nil}
+use Rattle.std.proofs.Common.{◌≡◌, ◌-◌, ◌+◌, ◌≤◌, ◌<◌, refl, ℕ, List, [], ◌∷◌, ◌++◌, length, take, Ok, Err, arith, sym, ap, subst, ◌∙◌, append_assoc, append-nil}
 use Rattle.std.specs.Prelude.{drop}
 use Rattle.std.proofs.Math.Seq.{take-append_seam, take-add}
 use Rattle.std.proofs.lemmas.List.{take-append-drop}
