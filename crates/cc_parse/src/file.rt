@@ -63,9 +63,9 @@ fn refusal(alloc: Global, tokens: &TokenList, left: usize) -> ParseFault
 fn gets_past(alloc: Global, tokens: &TokenList, left: usize) -> Result<bool, Memory>
     ensures { IfOk result (λ b. b ≡ nat_lt (length (unread (grammar_reading (limit + 2) tokens.now))) left) }
 {
-    let mut cursor = Cursor::new(tokens.as_slice());
-    match reading(alloc, &mut cursor, DEPTH_TO_TELL) {
-        Ok(_) | Err(Fault::Refused) => Ok(cursor.len() < left),
+    let mut again = Cursor::new(tokens.as_slice());
+    match reading(alloc, &mut again, DEPTH_TO_TELL) {
+        Ok(_) | Err(Fault::Refused) => Ok(again.len() < left),
         Err(Fault::Memory) => Err(Memory),
     }
 }

@@ -1,6 +1,6 @@
 -- Readers at three depths: one, another that is two greater, and any other that is greater. The second is past the token at
 -- which the first stops, or all three do the same.
-use Rattle.std.proofs.Common.{◌≡◌, ◌≤◌, ◌<◌, refl, ℕ, suc, Bool, true, false, List, [], ◌∷◌, length, Ok, Err, arith, sym, subst, ◌⊎◌, inl, inr}
+use Rattle.std.proofs.Common.{◌≡◌, ◌≤◌, ◌<◌, refl, Bool, true, false, List, [], ◌∷◌, length, Ok, Err, arith, sym, subst}
 use Rattle.cc_base.specs.declared.place.Spot.{Spot}
 use Rattle.cc_lex.specs.declared.token.Token.{Token}
 use Rattle.cc_grammar.specs.Classes.{skip, spot}

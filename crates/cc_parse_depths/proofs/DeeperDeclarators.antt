@@ -1,37 +1,35 @@
 -- Declarators at three depths.
-use Rattle.std.proofs.Common.{◌≡◌, ◌≤◌, ◌<◌, ◌+◌, refl, ℕ, zero, suc, Bool, true, false, List, [], ◌∷◌, length, Option, Some, None, Ok, Err, arith, sym, ap, subst, ◌∙◌, ◌⊎◌, inl, inr, nat_lt, ◌&&◌, ◌||◌, ◌==◌}
-use Rattle.std.proofs.lemmas.Bool.{and_parts, and_left, and_right, and_from, ltb-true, lt-ltb}
+use Rattle.std.proofs.Common.{◌≡◌, ◌≤◌, ◌<◌, ◌+◌, refl, ℕ, zero, suc, Bool, true, false, List, [], ◌∷◌, length, Option, Some, None, Ok, arith, sym, ap, subst, ◌∙◌, nat_lt, ◌&&◌, ◌||◌, ◌==◌}
+use Rattle.std.proofs.lemmas.Bool.{and_left, and_right, and_from, ltb-true, lt-ltb}
 use Rattle.cc_base.specs.declared.place.Spot.{Spot}
 use Rattle.cc_lex.specs.declared.token.Token.{Token}
-use Rattle.cc_lex.specs.declared.token.TokenKind.{TokenKind}
 use Rattle.cc_lex.specs.declared.token.TokenKind.TheVariants as kind
 use Rattle.cc_lex.specs.declared.keyword.Keyword.TheVariants as the_keyword
 use Rattle.cc_lex.specs.declared.punct.Punct.{Punct}
 use Rattle.cc_lex.specs.declared.punct.Punct.TheVariants as the_punct
-use Rattle.cc_tree.specs.Trees.{Name, DeclTree, declared, nameless, pointer, array, function, grouped, an_expr, no_expr, ExprOption}
+use Rattle.cc_tree.specs.Trees.{Name, DeclTree, declared, nameless, pointer, array, function, grouped, an_expr, no_expr}
 use Rattle.cc_tree.specs.Views.{gathered_types}
 use Rattle.cc_tree.specs.Depth as depths
-use Rattle.cc_grammar.specs.Names.{Names, is_type}
+use Rattle.cc_grammar.specs.Names.{Names}
 use Rattle.cc_grammar.specs.Outlines as outlines
-use Rattle.cc_grammar.specs.Classes.{is_punct, next_is, next_is_keyword, next_ident, skip, spot, starts_spec, same_punct}
+use Rattle.cc_grammar.specs.Classes.{is_punct, next_is, next_is_keyword, next_ident, skip, spot, same_punct}
 use Rattle.cc_grammar.specs.Outcomes.{Outcome, Parser, and_then, pure, refuse, take, ◌<$>◌, ◌>>=◌, ◌>>◌}
 use Rattle.cc_grammar.specs.Reading as reader
 use Rattle.cc_grammar.specs.Reading.{Inner, Mode, with_name, without_name, with_or_without, where_next, placed, skipping, opposite, spot_or, opening, wants_name, takes_name, readers}
 use Rattle.cc_parse_laws.proofs.Steps.{branch_true, branch_false}
-use Rattle.cc_parse_laws.proofs.NextTokens.{NextKind, ident_next}
+use Rattle.cc_parse_laws.proofs.NextTokens.{NextKind}
 use Rattle.cc_parse_laws.proofs.Peeks.{punct_other}
 use Rattle.cc_parse_laws.proofs.Inner.{SoundInner, ReadsDeclarator}
 use Rattle.cc_parse_laws.proofs.Depths.{declarator_depth}
 use Rattle.cc_parse_laws.proofs.Grows as grows
 use Rattle.cc_parse_laws.proofs.SoundClimbing.{sinks}
-use Rattle.cc_parse_laws.proofs.SoundDeclarators.{Direct, suffix_sound, direct_sound, nothing_sound}
-use Rattle.cc_parse_laws.proofs.Climbs.{not_zero, bound}
+use Rattle.cc_parse_laws.proofs.SoundDeclarators.{Direct, suffix_sound, direct_sound}
+use Rattle.cc_parse_laws.proofs.Climbs.{not_zero}
 use Rattle.cc_parse_places.proofs.Forks.{left}
 use Rattle.cc_parse_places.proofs.Spent.{at_kind}
-use Rattle.cc_parse_depths.proofs.Deeper.{Steps, alike, refused, stopped, Never, Halts, refuses, halts_with, Shrinks, skip_shrinks, bind_shrinks, steps_then, steps_are, steps_same, Deeper, deep_same, deep_pure, deep_refuse, deep_weak, deep_never, deep_then, deep_bind, deep_map, deep_map_never, deep_skipping, deep_view, deep_placed, deep_where, deep_branch}
-use Rattle.cc_parse_depths.proofs.DeeperLists.{deep_take, deep_until, deep_id, deep_turns, no_take, halts_take, unbound, deep_tests}
+use Rattle.cc_parse_depths.proofs.Deeper.{Steps, stopped, Never, Halts, refuses, halts_with, Shrinks, skip_shrinks, bind_shrinks, steps_then, steps_are, steps_same, Deeper, deep_pure, deep_refuse, deep_never, deep_then, deep_bind, deep_map, deep_map_never, deep_skipping, deep_placed, deep_where, deep_branch}
+use Rattle.cc_parse_depths.proofs.DeeperLists.{deep_until, deep_id, deep_turns, halts_take, unbound, deep_tests}
 use Rattle.cc_parse_depths.proofs.DeeperExpressions.{DeepInner, Further, deep_parameters}
-use Rattle.cc_parse_depths.proofs.Openings.{same_readers, next_shorter}
 
 -- ---- Tokens that go on with a declarator
 

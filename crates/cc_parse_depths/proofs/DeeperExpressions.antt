@@ -1,10 +1,9 @@
 -- Expressions and type names at three depths.
-use Rattle.std.proofs.Common.{◌≡◌, ◌≤◌, ◌<◌, ◌+◌, refl, ℕ, zero, suc, Bool, true, false, List, [], ◌∷◌, length, Option, Some, None, Ok, Err, arith, sym, ap, subst, ◌∙◌, inl, inr, nat_le, nat_lt, ◌&&◌, ◌==◌}
+use Rattle.std.proofs.Common.{◌≡◌, ◌≤◌, ◌<◌, ◌+◌, refl, ℕ, zero, suc, Bool, true, false, List, [], length, Option, Some, None, Ok, arith, sym, ap, subst, ◌∙◌, nat_le, nat_lt, ◌&&◌, ◌==◌}
 use Rattle.std.proofs.lemmas.Bool.{and_parts, and_right, leb-true, ltb-true, lt-leb}
 use Rattle.cc_base.specs.declared.place.Spot.{Spot}
 use Rattle.cc_lex.specs.declared.token.Token.{Token}
 use Rattle.cc_lex.specs.declared.punct.Punct.TheVariants as the_punct
-use Rattle.cc_tree.specs.declared.operator.BinaryOp.{BinaryOp}
 use Rattle.cc_tree.specs.declared.operator.Side.TheVariants as side
 use Rattle.cc_tree.specs.Trees.{ExprTree, name, integer, character, string, paren, unary, binary, assign, step, choice, comma, call, member, arrow, index, cast, size_expr, size_type, TypeTree, type_name}
 use Rattle.cc_tree.specs.Views.{gathered}
@@ -13,7 +12,7 @@ use Rattle.cc_grammar.specs.Levels.{level, binary_level}
 use Rattle.cc_grammar.specs.Names.{Names}
 use Rattle.cc_grammar.specs.Outlines as outlines
 use Rattle.cc_grammar.specs.Classes.{next_is, next_literal, skip, spot, starts_spec, start, Start, begins_name, begins_integer, begins_character, begins_string, begins_paren, begins_unary, begins_step, begins_sizeof, begins_nothing, tail, Tail, goes_binary, goes_assign, goes_question, goes_comma, goes_call, goes_index, goes_dot, goes_arrow, goes_step, ends_here, binds, left_level}
-use Rattle.cc_grammar.specs.Outcomes.{Outcome, Parser, and_then, pure, refuse, take, ◌<$>◌, ◌>>=◌, ◌>>◌}
+use Rattle.cc_grammar.specs.Outcomes.{Outcome, Parser, and_then, pure, refuse, ◌<$>◌}
 use Rattle.cc_grammar.specs.Reading as reader
 use Rattle.cc_grammar.specs.Reading.{Inner, Mode, without_name, with_or_without, where_next, skipping}
 use Rattle.cc_parse_laws.proofs.Steps.{branch_true, branch_false}
@@ -27,7 +26,7 @@ use Rattle.cc_parse_laws.proofs.SoundExpressions.{prefix_sound}
 use Rattle.cc_parse_laws.proofs.Climbs.{goes_on_is, not_zero, bound}
 use Rattle.cc_parse_places.proofs.Forks.{left}
 use Rattle.cc_parse_places.proofs.Spent.{HasNext}
-use Rattle.cc_parse_depths.proofs.Deeper.{Steps, alike, refused, stopped, Never, Halts, halts_with, halts_is, Shrinks, skip_shrinks, bind_shrinks, steps_then, steps_are, steps_same, steps_branch, Deeper, deep_same, deep_pure, deep_refuse, deep_weak, deep_never, deep_then, deep_bind, deep_map, deep_map_never, deep_skipping, deep_view, deep_placed, deep_where}
+use Rattle.cc_parse_depths.proofs.Deeper.{Steps, stopped, Never, halts_with, halts_is, Shrinks, skip_shrinks, bind_shrinks, steps_then, steps_are, steps_same, Deeper, deep_pure, deep_refuse, deep_then, deep_bind, deep_map, deep_map_never, deep_skipping, deep_view, deep_placed, deep_where}
 use Rattle.cc_parse_depths.proofs.DeeperLists.{deep_take, deep_until, deep_id, halts_take, Binding, unbound, binding_some, deep_separated, deep_repeated, behind_first}
 
 -- a token comes that can stand in a declarator, or begin one, and so none that can stand behind one

@@ -1,11 +1,11 @@
 -- Initialisers, declarations, statements and files at three depths.
-use Rattle.std.proofs.Common.{◌≡◌, ◌≤◌, ◌<◌, refl, ℕ, zero, suc, Bool, true, false, List, [], ◌∷◌, length, Option, Some, None, Ok, Err, arith, sym, ap, subst, ◌∙◌, ◌⊎◌, inl, inr}
+use Rattle.std.proofs.Common.{◌≡◌, ◌≤◌, ◌<◌, refl, ℕ, zero, suc, Bool, true, false, List, [], ◌∷◌, length, Option, Some, None, Err, arith, ap, ◌∙◌, inl, inr}
 use Rattle.cc_base.specs.declared.place.Spot.{Spot}
 use Rattle.cc_lex.specs.declared.token.Token.{Token}
 use Rattle.cc_lex.specs.declared.keyword.Keyword.TheVariants as the_keyword
 use Rattle.cc_lex.specs.declared.punct.Punct.{Punct}
 use Rattle.cc_lex.specs.declared.punct.Punct.TheVariants as the_punct
-use Rattle.cc_tree.specs.Trees.{ExprTree, SpecTrees, DeclTree, ValueTree, single, braces, InitTree, init, DeclarationTree, declaration, StartTree, start_declaration, start_expr, no_start, StmtTree, compound, plain, empty, if_then, if_else, switch, while_loop, do_loop, for_loop, break, continue, return, BlockTree, block, ItemTree, declares, case_label, default_label, does, ExternalTree, outer_declaration, definition}
+use Rattle.cc_tree.specs.Trees.{ExprTree, SpecTrees, DeclTree, ValueTree, single, braces, InitTree, init, DeclarationTree, declaration, StartTree, start_declaration, start_expr, no_start, StmtTree, compound, plain, empty, if_then, if_else, switch, while_loop, do_loop, for_loop, break, continue, return, block, ItemTree, declares, case_label, default_label, does, outer_declaration, definition}
 use Rattle.cc_tree.specs.Views.{gathered_values, gathered_items}
 use Rattle.cc_grammar.specs.Names.{Names, has_typedef, after_declarator, after_start, after_stmt, after_item, after_external}
 use Rattle.cc_grammar.specs.Classes.{next_is, next_is_keyword, skip, spot, starts_spec, StmtStart, begins_block, begins_empty, begins_if, begins_switch, begins_while, begins_do, begins_for, begins_break, begins_continue, begins_return, begins_case, begins_default, begins_other, stmt_start}
@@ -15,7 +15,7 @@ use Rattle.cc_grammar.specs.Reading.{with_name, where_next, skipping, placed, en
 use Rattle.cc_parse_laws.proofs.Steps.{branch_true, branch_false}
 use Rattle.cc_parse_laws.proofs.Lists.{takes}
 use Rattle.cc_parse_places.proofs.Forks.{left}
-use Rattle.cc_parse_depths.proofs.Deeper.{Steps, alike, refused, Never, Halts, refuses, halts_with, halts_is, halts_bind, halts_map, halts_else, Shrinks, bind_shrinks, skip_shrinks, steps_then, steps_are, steps_same, steps_branch, Deeper, deep_same, deep_pure, deep_refuse, deep_never, deep_then, deep_bind, deep_map, deep_map_never, deep_skipping, deep_view, deep_placed, deep_where}
+use Rattle.cc_parse_depths.proofs.Deeper.{Steps, alike, refused, Never, Halts, refuses, halts_with, halts_is, halts_bind, halts_map, halts_else, Shrinks, bind_shrinks, steps_same, steps_branch, Deeper, deep_same, deep_pure, deep_refuse, deep_then, deep_bind, deep_map, deep_map_never, deep_skipping, deep_view, deep_placed, deep_where}
 use Rattle.cc_parse_depths.proofs.DeeperLists.{deep_take, deep_take_keyword, deep_until, deep_turns, no_take, halts_take, Binding, unbound, deep_enclosed, deep_enclosed_behind}
 use Rattle.cc_parse_depths.proofs.DeeperExpressions.{DeepInner, Further}
 use Rattle.cc_parse_depths.proofs.DeeperDeclarators.{punct_some}
@@ -52,8 +52,8 @@ module _ (names : Names) where
   braces_taken d ts e =
       let all = deep_enclosed_behind (Binding 2) {p = reader.value names d} {q = reader.value names d} {s = reader.value names d} comma_binds (deep_same (value_shrinks d)) (λ r b. unbound the_punct.RightBrace 2 r (omega arith) b) in
       let is : reader.value names (suc d) ts ≡ and_then (reader.enclosed_by (reader.value names d) (length (skip ts)) (skip ts)) (λ vs. pure (braces (spot ts) (gathered_values vs.0) vs.1)) =
-          branch_true (next_is the_punct.LeftBrace ts) (in_braces names d) (no_braces names (suc d)) ts e
-          ∙ ap (λ o. and_then (and_then o (λ z us. reader.enclosed_by (reader.value names d) (length us) us)) (λ vs. pure (braces (spot ts) (gathered_values vs.0) vs.1))) (takes the_punct.LeftBrace ts e) in
+      branch_true (next_is the_punct.LeftBrace ts) (in_braces names d) (no_braces names (suc d)) ts e
+      ∙ ap (λ o. and_then (and_then o (λ z us. reader.enclosed_by (reader.value names d) (length us) us)) (λ vs. pure (braces (spot ts) (gathered_values vs.0) vs.1))) (takes the_punct.LeftBrace ts e) in
       let same : length (left (reader.value names (suc d) ts)) ≡ length (left (and_then (reader.enclosed_by (reader.value names d) (length (skip ts)) (skip ts)) (λ vs. pure (braces (spot ts) (gathered_values vs.0) vs.1)))) = ap (λ o. length (left o)) is in
       omega (arith, same, all.shrinks (skip ts), bind_shrinks (reader.enclosed_by (reader.value names d) (length (skip ts)) (skip ts)) (λ vs. pure (braces (spot ts) (gathered_values vs.0) vs.1)) (λ x us. omega arith), punct_some the_punct.LeftBrace ts e)
 

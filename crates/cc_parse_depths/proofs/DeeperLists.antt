@@ -1,14 +1,13 @@
 -- Lists, tokens and identifiers at three depths.
-use Rattle.std.proofs.Common.{◌≡◌, ◌≤◌, ◌<◌, refl, ℕ, zero, suc, Bool, true, false, List, [], ◌∷◌, length, Option, Some, None, Ok, Err, arith, sym, ap, subst, ◌∙◌, inl, inr, if◌then◌else◌}
-use Rattle.cc_base.specs.declared.place.Spot.{Spot}
+use Rattle.std.proofs.Common.{◌≡◌, ◌≤◌, ◌<◌, refl, ℕ, zero, suc, Bool, true, false, List, [], ◌∷◌, length, Option, Some, None, Ok, Err, arith, sym, ap, subst, if◌then◌else◌}
 use Rattle.cc_lex.specs.declared.token.Token.{Token}
 use Rattle.cc_lex.specs.declared.keyword.Keyword.{Keyword}
 use Rattle.cc_lex.specs.declared.punct.Punct.{Punct}
 use Rattle.cc_lex.specs.declared.punct.Punct.TheVariants as the_punct
 use Rattle.cc_tree.specs.Trees.{Name}
 use Rattle.cc_grammar.specs.Names.{Names, is_type}
-use Rattle.cc_grammar.specs.Classes.{is_punct, next_is, next_is_keyword, next_ident, skip, tail, tail_punct, binds}
-use Rattle.cc_grammar.specs.Outcomes.{Outcome, Parser, and_then, pure, refuse, take, take_keyword, ◌>>◌, ◌<$>◌}
+use Rattle.cc_grammar.specs.Classes.{next_is, next_is_keyword, next_ident, skip, tail, tail_punct, binds}
+use Rattle.cc_grammar.specs.Outcomes.{Parser, and_then, pure, refuse, take, take_keyword, ◌>>◌, ◌<$>◌}
 use Rattle.cc_grammar.specs.Reading as reader
 use Rattle.cc_grammar.specs.Reading.{branch, where_next, skipping}
 use Rattle.cc_parse_laws.proofs.Peeks.{punct_tail}

@@ -3,20 +3,19 @@ use Rattle.std.proofs.Common.{◌≡◌, ◌≤◌, ◌<◌, refl, ℕ, zero, su
 use Rattle.cc_base.specs.declared.place.Spot.{Spot}
 use Rattle.cc_lex.specs.declared.token.Token.{Token}
 use Rattle.cc_lex.specs.declared.punct.Punct.TheVariants as the_punct
-use Rattle.cc_tree.specs.Trees.{Name, SpecTree, word, named, struct, enum, MemberTree, members, no_members, constant, ConstantTree, no_constants, an_expr, no_expr, ExprOption}
+use Rattle.cc_tree.specs.Trees.{Name, SpecTree, word, named, struct, enum, MemberTree, members, no_members, constant, ConstantTree, no_constants, an_expr, no_expr}
 use Rattle.cc_tree.specs.Views.{gathered_specs, gathered_members, gathered_constants, gathered_declarators}
 use Rattle.cc_grammar.specs.Names.{Names}
 use Rattle.cc_grammar.specs.Classes.{next_is, next_ident, skip, spot, starts_spec, spec_start, SpecStart, spec_word, spec_struct, spec_enum, spec_named, no_spec, is_spec}
-use Rattle.cc_grammar.specs.Outcomes.{Outcome, Parser, and_then, pure, refuse, take, ◌<$>◌, ◌>>=◌, ◌>>◌}
+use Rattle.cc_grammar.specs.Outcomes.{Parser, and_then, pure, refuse, take, ◌<$>◌, ◌>>=◌, ◌>>◌}
 use Rattle.cc_grammar.specs.Reading as reader
 use Rattle.cc_grammar.specs.Reading.{Inner, no_inner, Mode, with_name, where_next, skipping, placed, enclosed, repeated, readers}
-use Rattle.cc_parse_laws.proofs.Steps.{branch_true, branch_false}
+use Rattle.cc_parse_laws.proofs.Steps.{branch_false}
 use Rattle.cc_parse_laws.proofs.Climbs.{not_zero}
 use Rattle.cc_parse_laws.proofs.Lists.{takes}
 use Rattle.cc_parse_laws.proofs.SoundReaders.{readers_sound}
 use Rattle.cc_parse_places.proofs.Forks.{left}
-use Rattle.cc_parse_places.proofs.Spent.{HasNext}
-use Rattle.cc_parse_depths.proofs.Deeper.{Steps, refused, Never, Halts, halts_else, Shrinks, bind_shrinks, steps_are, steps_same, Deeper, deep_same, deep_pure, deep_refuse, deep_then, deep_bind, deep_map, deep_map_never, deep_skipping, deep_view, deep_placed, deep_where}
+use Rattle.cc_parse_depths.proofs.Deeper.{Steps, refused, Never, bind_shrinks, steps_are, steps_same, Deeper, deep_same, deep_pure, deep_refuse, deep_then, deep_bind, deep_map, deep_map_never, deep_skipping, deep_view, deep_placed, deep_where}
 use Rattle.cc_parse_depths.proofs.DeeperLists.{deep_take, deep_until, deep_id, no_take, halts_take, Binding, unbound, deep_separated, deep_enclosed, deep_enclosed_behind, deep_repeated, deep_tests, behind_first}
 use Rattle.cc_parse_depths.proofs.DeeperExpressions.{DeepInner, Further, deep_expression}
 use Rattle.cc_parse_depths.proofs.DeeperDeclarators.{deep_declarator, punct_some}

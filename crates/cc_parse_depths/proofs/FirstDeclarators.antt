@@ -1,6 +1,6 @@
 -- Whether a declarator takes the first token doesn't depend on how deep it may be, if it may be there at all.
-use Rattle.std.proofs.Common.{◌≡◌, ◌≤◌, ◌<◌, refl, ℕ, zero, suc, Bool, true, false, List, [], ◌∷◌, length, Option, Some, None, Ok, Err, arith, sym, ap, subst, ◌∙◌, ◌⊎◌, inl, inr, nat_lt, ◌&&◌, ◌||◌, ◌==◌}
-use Rattle.std.proofs.lemmas.Bool.{and_parts, and_left, and_from}
+use Rattle.std.proofs.Common.{◌≡◌, ◌<◌, refl, ℕ, zero, suc, Bool, true, false, List, length, Option, Some, None, Ok, Err, arith, sym, ap, ◌∙◌, ◌⊎◌, inl, inr, nat_lt, ◌&&◌, ◌||◌}
+use Rattle.std.proofs.lemmas.Bool.{and_parts, and_left}
 use Rattle.cc_base.specs.declared.place.Spot.{Spot}
 use Rattle.cc_lex.specs.declared.token.Token.{Token}
 use Rattle.cc_lex.specs.declared.punct.Punct.TheVariants as the_punct
@@ -11,10 +11,10 @@ use Rattle.cc_grammar.specs.Outcomes.{Outcome, Parser, and_then, pure, refuse, �
 use Rattle.cc_grammar.specs.Reading as reader
 use Rattle.cc_grammar.specs.Reading.{Inner, no_inner, Mode, where_next, placed, skipping, opposite, wants_name, takes_name, readers, id}
 use Rattle.cc_parse_laws.proofs.Steps.{branch_true, branch_false}
-use Rattle.cc_parse_laws.proofs.NextTokens.{NextKind, ident_next}
+use Rattle.cc_parse_laws.proofs.NextTokens.{ident_next}
 use Rattle.cc_lex.specs.declared.token.TokenKind.TheVariants as kind
 use Rattle.cc_parse_places.proofs.Forks.{left}
-use Rattle.cc_parse_depths.proofs.Deeper.{Steps, refused, stopped, bind_shrinks, steps_are, steps_same, Deeper}
+use Rattle.cc_parse_depths.proofs.Deeper.{Steps, refused, stopped, bind_shrinks, steps_same, Deeper}
 use Rattle.cc_parse_depths.proofs.DeeperExpressions.{DeepInner, Further}
 use Rattle.cc_parse_depths.proofs.Openings.{same_readers, next_shorter}
 use Rattle.cc_parse_depths.proofs.DeeperDeclarators.{name_comes, group_comes, name_same, group_same, suffixed, starred, written_is, deep_behind_star, deep_in_group, suffixes_go, suffixes_halt, suffixes_shrink, go_shrinks, punct_some, suffix_some, name_further, paren_further, star_further, suffix_further}
@@ -73,8 +73,8 @@ module _ (names : Names) (mode : Mode) (ts : List Token) where
         inr (
           name_further got.0 ts next,
           λ i d good. direct_taken i d (Ok (declared (spot ts) got.0, skip ts)) good
-          (branch_true (name_comes names mode i (suc d) ts) the_name (no_name i d) ts (name_same names mode i no_inner (suc d) 0 ts ∙ e) ∙ ap (λ o. and_then o (λ z. pure (declared (spot ts) z))) got.1)
-          (next_shorter (kind.Identifier got.0) ts next),
+              (branch_true (name_comes names mode i (suc d) ts) the_name (no_name i d) ts (name_same names mode i no_inner (suc d) 0 ts ∙ e) ∙ ap (λ o. and_then o (λ z. pure (declared (spot ts) z))) got.1)
+              (next_shorter (kind.Identifier got.0) ts next),
         )
 
     module _ (unnamed : name_comes names mode no_inner 0 ts ≡ false) where
@@ -88,10 +88,10 @@ module _ (names : Names) (mode : Mode) (ts : List Token) where
           inr (
             paren_further ts two.0,
             λ i d good.
-            let all = deep_in_group names i i i (suc d) (suc d) (suc d) good mode (spot ts) in
-            direct_taken i d (reader.group names i (suc d) mode ts) good
-            (no_name_is i d ∙ branch_true (group_comes names mode i (suc d) ts) (reader.group names i (suc d) mode) (reader.nothing names i (suc d) mode) ts (group_same names mode i no_inner (suc d) 0 ts ∙ e))
-            (omega (arith, all.shrinks (skip ts), punct_some the_punct.LeftParen ts two.0)),
+                let all = deep_in_group names i i i (suc d) (suc d) (suc d) good mode (spot ts) in
+                direct_taken i d (reader.group names i (suc d) mode ts) good
+                (no_name_is i d ∙ branch_true (group_comes names mode i (suc d) ts) (reader.group names i (suc d) mode) (reader.nothing names i (suc d) mode) ts (group_same names mode i no_inner (suc d) 0 ts ∙ e))
+                (omega (arith, all.shrinks (skip ts), punct_some the_punct.LeftParen ts two.0)),
           )
 
       module _ (ungrouped : group_comes names mode no_inner 0 ts ≡ false) where
@@ -113,10 +113,10 @@ module _ (names : Names) (mode : Mode) (ts : List Token) where
             by true e = inr (
               suffix_further ts (next_is the_punct.LeftBracket ts) (next_is the_punct.LeftParen ts) refl refl e,
               λ i d good.
-              let is : reader.declarator names i (suc d) mode ts ≡ and_then (reader.suffix names i (suc d) nameless ts) (reader.suffixes names i (suc d) d) =
-              suffixed_is i d (Ok (nameless, ts)) (nothing_is i d ∙ none) ∙ suffixes_go names i (suc d) d nameless ts e (omega arith) in
-              let same : length (left (reader.declarator names i (suc d) mode ts)) ≡ length (left (and_then (reader.suffix names i (suc d) nameless ts) (reader.suffixes names i (suc d) d))) = ap (λ o. length (left o)) is in
-              omega (arith, same, go_shrinks names i i i (suc d) (suc d) (suc d) good d nameless ts (suffixes_shrink names i i i (suc d) (suc d) (suc d) good d), suffix_some ts e),
+                  let is : reader.declarator names i (suc d) mode ts ≡ and_then (reader.suffix names i (suc d) nameless ts) (reader.suffixes names i (suc d) d) =
+                  suffixed_is i d (Ok (nameless, ts)) (nothing_is i d ∙ none) ∙ suffixes_go names i (suc d) d nameless ts e (omega arith) in
+                  let same : length (left (reader.declarator names i (suc d) mode ts)) ≡ length (left (and_then (reader.suffix names i (suc d) nameless ts) (reader.suffixes names i (suc d) d))) = ap (λ o. length (left o)) is in
+                  omega (arith, same, go_shrinks names i i i (suc d) (suc d) (suc d) good d nameless ts (suffixes_shrink names i i i (suc d) (suc d) (suc d) good d), suffix_some ts e),
             )
             by false e = inl (λ i d. suffixed_is i d (Ok (nameless, ts)) (nothing_is i d ∙ none) ∙ suffixes_halt names i (suc d) (suc d) nameless ts (and_left (reader.suffix_comes names i (suc d) ts) (nat_lt 0 (suc d)) e) ∙ sym none)
 

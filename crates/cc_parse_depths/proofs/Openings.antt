@@ -1,5 +1,5 @@
 -- Whether an expression takes the first token doesn't depend on how deep it may be, if it may be there at all.
-use Rattle.std.proofs.Common.{◌≡◌, ◌≤◌, ◌<◌, ◌+◌, refl, ℕ, zero, suc, Bool, true, false, List, [], ◌∷◌, length, Option, Some, None, Ok, Err, arith, sym, ap, subst, ◌∙◌, ◌⊎◌, inl, inr, nat_le, ◌&&◌, ◌==◌}
+use Rattle.std.proofs.Common.{◌≡◌, ◌≤◌, ◌<◌, refl, ℕ, zero, suc, Bool, true, false, List, [], ◌∷◌, length, Some, Ok, Err, arith, sym, ap, ◌∙◌, ◌⊎◌, inl, inr, nat_le, ◌&&◌, ◌==◌}
 use Rattle.std.proofs.lemmas.Bool.{and_left, and_right, and_from, ne_eqb}
 use Rattle.cc_base.specs.declared.place.Spot.{Spot}
 use Rattle.cc_base.specs.Spots as spots
@@ -9,10 +9,10 @@ use Rattle.cc_lex.specs.declared.token.TokenKind.TheVariants as kind
 use Rattle.cc_lex.specs.declared.punct.Punct.TheVariants as the_punct
 use Rattle.cc_lex.specs.declared.keyword.Keyword.TheVariants as the_keyword
 use Rattle.cc_tree.specs.declared.operator.Side.TheVariants as side
-use Rattle.cc_tree.specs.Trees.{Name, ExprTree, name, integer, character, string, paren, unary, step, cast, size_expr}
+use Rattle.cc_tree.specs.Trees.{Name, ExprTree, name, string, paren, unary, step, cast, size_expr}
 use Rattle.cc_grammar.specs.Levels.{unary_punct, step_punct}
 use Rattle.cc_grammar.specs.Names.{Names}
-use Rattle.cc_grammar.specs.Classes.{is_punct, next_is, next_literal, literal, skip, spot, starts_spec, start, start_kind, Start, begins_name, begins_integer, begins_character, begins_string, begins_paren, begins_unary, begins_step, begins_sizeof, begins_nothing}
+use Rattle.cc_grammar.specs.Classes.{is_punct, next_is, literal, skip, spot, starts_spec, start, start_kind, Start, begins_name, begins_integer, begins_character, begins_string, begins_paren, begins_unary, begins_step, begins_sizeof, begins_nothing}
 use Rattle.cc_grammar.specs.Outcomes.{Outcome, Parser, and_then, pure, refuse, take, ◌<$>◌, ◌>>=◌, ◌>>◌}
 use Rattle.cc_grammar.specs.Reading as reader
 use Rattle.cc_grammar.specs.Reading.{Inner, without_name, where_next, skipping, readers, id}

@@ -1,5 +1,5 @@
 -- What depth has to do with the place at which reading fails: what is read deeper, what is too deep, and how reading tells.
-use Rattle.std.proofs.Common.{◌≡◌, ◌≢◌, ◌≤◌, ◌<◌, ◌-◌, ◌+◌, refl, ℕ, zero, suc, Bool, true, false, List, [], ◌∷◌, ◌++◌, length, take, Ok, Err, arith, sym, ap, subst, ◌∙◌, ◌⊎◌, inl, inr, length-append}
+use Rattle.std.proofs.Common.{◌≡◌, ◌≤◌, ◌<◌, ◌-◌, ◌+◌, refl, ℕ, zero, suc, List, [], ◌∷◌, length, take, Ok, Err, arith, sym, ap, subst, ◌∙◌, ◌⊎◌, inl, inr}
 use Rattle.cc_base.specs.declared.place.Spot.{Spot}
 use Rattle.cc_lex.specs.declared.token.Token.{Token}
 use Rattle.cc_tree.specs.Trees.{ExternalTree}
@@ -13,7 +13,6 @@ use Rattle.cc_parse_laws.proofs.SoundFiles.{read_is_well_formed}
 use Rattle.cc_parse_laws.proofs.SoundReaders.{readers_sound}
 use Rattle.cc_parse_places.proofs.Forks.{left}
 use Rattle.cc_parse_places.proofs.BegunFiles.{cut_off_before}
-use Rattle.cc_parse_places.proofs.Refused.{left_is_the_end}
 use Rattle.cc_parse_places.proofs.CutOffs.{no_cut_off_file_begins_so}
 use Rattle.cc_parse_places.proofs.Beginnings.{read_is_cut_off, read_leaves_nothing, first_tokens, fewer_tokens}
 use Rattle.cc_parse_depths.proofs.Deeper.{Steps, alike, refused, stopped, Never}

@@ -57,7 +57,7 @@ front_is_cut_off d front more c = by (reading d front) refl
         let parts = left_is_the_end d front t rest is in
         let all = append_front parts.0 t rest more front parts.1 in
         let fails : reading d (front ++ more) ≡ Err (t ∷ (rest ++ more)) =
-            ap (reading d) all ∙ refused_whatever_follows d parts.0 t rest (rest ++ more) (ap (reading d) (sym parts.1) ∙ is) in
+        ap (reading d) all ∙ refused_whatever_follows d parts.0 t rest (rest ++ more) (ap (reading d) (sym parts.1) ∙ is) in
         absurd (not_at_a_token d (front ++ more) t (rest ++ more) fails (cut_off_is_read d (front ++ more) c))
 
 -- The first tokens of a cut-off file are a cut-off file's.
