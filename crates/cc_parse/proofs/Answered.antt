@@ -67,8 +67,8 @@ deeper_begun tokens t rest n is near =
 pub ended : (tokens : List Token) (left n : ℕ) → FailsBefore tokens left → left ≡ 0 → n ≡ length tokens - left → IsRefused tokens (fault.Syntax n)
 ended tokens left n f z is = at_the_end tokens f.rest n f.fails (omega (arith, z, f.number)) (omega (arith, is, f.number))
 
-pub too_deep : (tokens : List Token) (left n : ℕ) → FailsBefore tokens left → left ≢ 0 → length (unread (reading (limit + 2) tokens)) < left → n ≡ length tokens - left → IsRefused tokens (fault.TooDeep n)
-too_deep tokens left n f some near is = by f.rest f.fails f.number
+too_deep_at : (tokens : List Token) (left n : ℕ) → FailsBefore tokens left → left ≢ 0 → length (unread (reading (limit + 2) tokens)) < left → n ≡ length tokens - left → IsRefused tokens (fault.TooDeep n)
+too_deep_at tokens left n f some near is = by f.rest f.fails f.number
   where
     by : (rest : List Token) → reading limit tokens ≡ Err rest → left ≡ length rest → IsRefused tokens (fault.TooDeep n)
     by [] e number = absurd (some number)
@@ -76,11 +76,17 @@ too_deep tokens left n f some near is = by f.rest f.fails f.number
         let at = number_is tokens t rest n e (omega (arith, is, number)) in
         (breaks_at tokens t rest n e at, deeper_begun tokens t rest n at (omega (arith, near, number)))
 
-pub no_syntax : (tokens : List Token) (left n : ℕ) → FailsBefore tokens left → left ≢ 0 → left ≤ length (unread (reading (limit + 2) tokens)) → n ≡ length tokens - left → IsRefused tokens (fault.Syntax n)
-no_syntax tokens left n f some far is = by f.rest f.fails f.number
+no_syntax_at : (tokens : List Token) (left n : ℕ) → FailsBefore tokens left → left ≢ 0 → left ≤ length (unread (reading (limit + 2) tokens)) → n ≡ length tokens - left → IsRefused tokens (fault.Syntax n)
+no_syntax_at tokens left n f some far is = by f.rest f.fails f.number
   where
     by : (rest : List Token) → reading limit tokens ≡ Err rest → left ≡ length rest → IsRefused tokens (fault.Syntax n)
     by [] e number = absurd (some number)
     by (t ∷ rest) e number =
         let at = number_is tokens t rest n e (omega (arith, is, number)) in
         inl (breaks_at tokens t rest n e at, no_begun tokens t rest n e at (omega (arith, far, number)))
+
+pub too_deep : (tokens : List Token) (left n : ℕ) → FailsBefore tokens left → left ≢ 0 → true ≡ nat_lt (length (unread (reading (limit + 2) tokens))) left → n ≡ length tokens - left → IsRefused tokens (fault.TooDeep n)
+too_deep tokens left n f some near is = too_deep_at tokens left n f some (ltb-true _ _ (sym near)) is
+
+pub no_syntax : (tokens : List Token) (left n : ℕ) → FailsBefore tokens left → left ≢ 0 → false ≡ nat_lt (length (unread (reading (limit + 2) tokens))) left → n ≡ length tokens - left → IsRefused tokens (fault.Syntax n)
+no_syntax tokens left n f some far is = no_syntax_at tokens left n f some (ltb-false _ _ (sym far)) is
