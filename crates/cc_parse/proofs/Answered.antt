@@ -1,5 +1,5 @@
 -- What reading gives is the one tree, and where it gives none there is none; where it fails, and why.
-use Rattle.std.proofs.Common.{◌≡◌, ◌≢◌, ◌<◌, ◌≤◌, ◌-◌, ◌+◌, refl, ℕ, zero, suc, true, false, List, [], ◌∷◌, length, take, Ok, Err, arith, sym, ap, subst, ◌∙◌, inl, inr, nat_lt}
+use Rattle.std.proofs.Common.{◌≡◌, ◌≢◌, ◌<◌, ◌≤◌, ◌-◌, ◌+◌, refl, ℕ, true, false, List, [], ◌∷◌, length, take, Ok, Err, arith, sym, ap, subst, inl, inr, nat_lt}
 use Rattle.std.proofs.lemmas.Bool.{ltb-true, ltb-false}
 use Rattle.cc_base.specs.declared.place.Spot.{Spot}
 use Rattle.cc_lex.specs.declared.token.Token.{Token}
@@ -18,7 +18,7 @@ use Rattle.cc_parse_places.proofs.Refused.{left_is_the_end}
 use Rattle.cc_parse_places.proofs.CutOffs.{no_cut_off_file_begins_so}
 use Rattle.cc_parse_places.proofs.Beginnings.{before_the_refused, all_at_the_end}
 use Rattle.cc_parse_depths.proofs.Told.{no_depth, past_the_token}
-use Rattle.cc_parse.specs.Answers.{IsTheTree, HasNoTree, BreaksAt, BreaksOff, IsBegun, IsRefused}
+use Rattle.cc_parse.specs.Answers.{IsTheTree, HasNoTree, BreaksAt, IsBegun, IsRefused}
 use Rattle.cc_parse.specs.Unread.{unread, FailsBefore}
 use Rattle.cc_parse.specs.declared.fault.ParseFault.TheVariants as fault
 

@@ -1,9 +1,8 @@
 -- Tokens are refused for one reason at most, and a file for none.
-use Rattle.std.proofs.Common.{◌≡◌, ◌≢◌, ◌<◌, ◌≤◌, ◌+◌, refl, ℕ, zero, suc, List, take, length, arith, sym, ap, subst, ◌∙◌, ◌⊎◌, inl, inr}
+use Rattle.std.proofs.Common.{◌≡◌, ◌≢◌, ◌<◌, ◌+◌, refl, ℕ, zero, suc, List, take, length, arith, sym, ap, subst, ◌∙◌, ◌⊎◌, inl, inr}
 use Rattle.cc_base.specs.declared.place.Spot.{Spot}
 use Rattle.cc_lex.specs.declared.token.Token.{Token}
 use Rattle.cc_tree.specs.Trees.{ExternalTree}
-use Rattle.cc_grammar.specs.CutOff.{CutOff}
 use Rattle.cc_grammar.specs.Limit.{limit}
 use Rattle.cc_grammar.proofs.WholeTrees.{whole_is_cut_off}
 use Rattle.cc_parse_places.proofs.Beginnings.{first_tokens}
