@@ -8,6 +8,7 @@ use Rattle.cc_program.specs.declared.program.Program.{Program}
 use Rattle.cc_graph.specs.declared.graph.Graph.{Graph}
 use Rattle.cc_graph.specs.declared.graph.GraphFault.{GraphFault}
 use Rattle.cc_graph.specs.declared.graph.GraphFault.TheVariants as fault
+use Rattle.cc_graph.specs.declared.graph.Points.{Points}
 use Rattle.cc_graph.specs.declared.position.Position.TheVariants.{Entry, Exit}
 use Rattle.cc_graph.specs.declared.position.Row.{Row}
 use Rattle.cc_graph.specs.Limit.{most_points}
@@ -44,6 +45,14 @@ entry_of g f = entry_by g.rows (defined_by (slice_get g.definitions f.0))
 
 abbrev pub exit_of : Graph → FuncId → Option ℕ
 exit_of g f = exit_by g.rows (defined_by (slice_get g.definitions f.0))
+
+-- the points of a program, within the limit
+pub record ArePoints (P : Program) (it : Points) : Type 0 where
+  pub rows : it.rows ≡ rows_of P
+  pub points : it.points ≡ points_in P
+  pub few : it.points ≤ most_points
+  pub counted : length it.positions ≡ it.points
+  pub named : IsNaming it.rows it.positions
 
 -- the graph of a program
 pub record IsGraph (P : Program) (g : Graph) : Type 0 where

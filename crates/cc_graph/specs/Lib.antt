@@ -7,3 +7,4 @@ pub mod Order
 pub mod Linking
 pub mod Limit
 pub mod Graphs
+pub mod Across

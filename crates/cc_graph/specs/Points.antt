@@ -77,15 +77,23 @@ jumps node.Continue = true
 jumps (node.Return e) = true
 jumps _ = false
 
+-- it has a point at it: an evaluated call
+abbrev pub has_at : Standing → Node → Bool
+has_at Evaluated what = is_call what
+has_at _ what = false
+
+abbrev pub row_with : Standing → Bool → Bool → ℕ → Row
+row_with own jumps has_at k = record {
+  standing = own;
+  jumps = jumps;
+  first = k;
+  at = if has_at then Some (k + 1) else None;
+  last = if has_at then k + 2 else k + 1;
+}
+
 -- the row of a node that stands so, if its first point is k
 abbrev pub row : Node → Standing → ℕ → Row
-row what own k = record {
-  standing = own;
-  jumps = jumps what;
-  first = k;
-  at = if is_call what then Some (k + 1) else None;
-  last = if is_call what then k + 2 else k + 1;
-}
+row what own k = row_with own (jumps what) (has_at own what) k
 
 -- the number after the points of a node, of which k would be the first
 abbrev pub next_point : Standing → Row → ℕ → ℕ

@@ -171,12 +171,12 @@ jump S n _ = []
 -- the node n, which is x, says that q follows p
 pub record Says (A : Arena) (rows : List Row) (n : ℕ) (x : Placed) (p q : Position) : Type 0 where
   pub there : slice_get A.nodes n ≡ Some x
-  pub says : Contains (says A rows n x.node) (p, q)
+  pub has : Contains (says A rows n x.node) (p, q)
 
 -- the word of the jump n says so
 pub record Jumps (A : Arena) (scopes : List Scope) (n : ℕ) (x : Placed) (p q : Position) : Type 0 where
   pub there : slice_get A.nodes n ≡ Some x
-  pub jumps : Contains (jump (scope_at scopes x.parent) n x.node) (p, q)
+  pub has : Contains (jump (scope_at scopes x.parent) n x.node) (p, q)
 
 -- The point q, whose number is j, follows the point p, whose number is k: some node says so, and p isn't after a jump; or p is
 -- after a jump, and its word says so.

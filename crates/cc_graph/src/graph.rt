@@ -217,13 +217,11 @@ pub fn lower(alloc: Global, program: &Program) -> Result<Graph, GraphFault>
     if arena.nodes.len() > MOST_NODES {
         return Err(GraphFault::Memory);
     }
-    let Rows { rows, points } = numbering(alloc, program)?;
-    if points > MAX_POINTS {
-        return Err(GraphFault::TooManyPoints {
-            count: points as u64,
-        });
-    }
-    let positions = name_points(alloc, rows.as_slice())?;
+    let Points {
+        rows,
+        points,
+        positions,
+    } = all_points(alloc, program)?;
     let definitions = definitions(alloc, program)?;
     let next = succession(alloc, arena, rows.as_slice(), points)?;
     Ok(Graph {

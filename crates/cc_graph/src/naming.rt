@@ -37,13 +37,23 @@ fn standing_at(standings: &[Standing], n: usize) -> Standing
     }
 }
 
+// Whether a node has a point at it: an evaluated call.
+fn has_at(standing: Standing, node: Node) -> bool
+    ensures { result ≡ spec.has_at standing node }
+{
+    match standing {
+        Standing::Evaluated => is_call(node),
+        _ => false,
+    }
+}
+
 // The row of a node, if its first point is `first`.
 fn row(node: Node, standing: Standing, first: u32) -> Row
     requires { first + 2 < 2 ^ 32 }
     ensures { result ≡ spec.row node standing first }
 {
     let jumps = jumps(node);
-    if is_call(node) {
+    if has_at(standing, node) {
         Row {
             standing,
             jumps,
