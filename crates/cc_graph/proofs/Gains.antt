@@ -12,7 +12,7 @@ use Rattle.cc_graph.specs.declared.position.Position.{Position}
 use Rattle.cc_graph.specs.Points.{number, source}
 use Rattle.cc_graph.specs.Scopes.{scope_at}
 use Rattle.cc_graph.specs.Succession.{Step, says, jump, Says, Jumps, FollowsAt, Follows}
-use Rattle.cc_graph.specs.Order.{ordered}
+use Rattle.cc_graph.specs.Order.{in_order}
 use Rattle.cc_graph.proofs.Ordering.{ordered_only, ordered_kept, ordered_ascends}
 use Rattle.cc_graph.specs.Linking.{Next, row_of, with_step, added, linked, told, all_linked, all_told, node_linked, lowered, IsSuccession}
 
@@ -117,7 +117,7 @@ all_told_gains : (rows : List Row) (steps : List Step) (next : Next) → Gains n
 all_told_gains rows [] next = gains_as (λ k j no. absurd no) (λ k j (p, q, (i, w, e), f, g). omega arith) (gains_none next)
 all_told_gains rows (s ∷ steps) next = gains_as (first_or_later (number rows) rows s steps) (which (number rows) rows s steps) (gains_on (added_gains (number rows s.0) (number rows s.1) next) (all_told_gains rows steps (told rows s next)))
 
-count_ordered : (next : Next) → length (map ordered next) ≡ length next
+count_ordered : (next : Next) → length (map in_order next) ≡ length next
 count_ordered next = simp length-map
 
 module _ (A : Arena) (rows : List Row) (scopes : List Scope) where
@@ -157,13 +157,13 @@ module _ (A : Arena) (rows : List Row) (scopes : List Scope) where
       let empty = subst (λ (xs : List ℕ). Contains xs j) (get_or-replicate points k [] [] w) has in
       omega arith
 
-  pub is_succession : (points : ℕ) (start next : Next) → start ≡ replicate points [] → next ≡ lowered A rows scopes A.nodes 0 start → IsSuccession A rows scopes points (map ordered next)
+  pub is_succession : (points : ℕ) (start next : Next) → start ≡ replicate points [] → next ≡ lowered A rows scopes A.nodes 0 start → IsSuccession A rows scopes points (map in_order next)
   is_succession points start next is_start is_next =
       let empty : Next = replicate points [] in
       let h = gains_as to_follows from_follows (lowered_gains A.nodes 0 empty) in
       let count : length empty ≡ points = length-replicate points [] in
       let is : next ≡ lowered A rows scopes A.nodes 0 empty = is_next ∙ ap (lowered A rows scopes A.nodes 0) is_start in
-      let goal : IsSuccession A rows scopes points (map ordered (lowered A rows scopes A.nodes 0 empty)) = record {
+      let goal : IsSuccession A rows scopes points (map in_order (lowered A rows scopes A.nodes 0 empty)) = record {
         long = count_ordered (lowered A rows scopes A.nodes 0 empty) ∙ h.long ∙ count;
         ascends = λ k w. ordered_ascends (lowered A rows scopes A.nodes 0 empty) k;
         only = λ k j w has. either (λ old. absurd (none_in points k j w old)) (λ f. f) (h.only k j (subst (λ n. k < n) (sym count) w) (ordered_only _ k j has));
@@ -171,6 +171,6 @@ module _ (A : Arena) (rows : List Row) (scopes : List Scope) where
       } in
       rw is goal
 
-pub lower_is : (A : Arena) (rows : List Row) (scopes scopes' : List Scope) (points : ℕ) (start next all : Next) → scopes' ≡ scopes → start ≡ replicate points [] → next ≡ lowered A rows scopes' A.nodes 0 start → all ≡ map ordered next → IsSuccession A rows scopes points all
+pub lower_is : (A : Arena) (rows : List Row) (scopes scopes' : List Scope) (points : ℕ) (start next all : Next) → scopes' ≡ scopes → start ≡ replicate points [] → next ≡ lowered A rows scopes' A.nodes 0 start → all ≡ map in_order next → IsSuccession A rows scopes points all
 lower_is A rows scopes scopes' points start next all f g h is =
     rw is (is_succession A rows scopes points start next g (h ∙ ap (λ s. lowered A rows s A.nodes 0 start) f))

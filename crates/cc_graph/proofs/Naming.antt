@@ -8,7 +8,12 @@ use Rattle.cc_graph.specs.declared.position.Position.TheVariants.{Root, Entry, E
 use Rattle.cc_graph.specs.declared.position.Row.{Row}
 use Rattle.cc_graph.specs.declared.standing.Standing.{Standing}
 use Rattle.cc_graph.specs.declared.standing.Standing.TheVariants.{Unevaluated, Declaring, Evaluated, Defining}
-use Rattle.cc_graph.specs.Points.{entry, exit, before, at, after, number, is_call, jumps, has_at, row_with, row, next_point, standing_or, numbered, positions_in, positions_from, positions_of, IsNaming}
+use Rattle.cc_graph.specs.Points.{entry, exit, before, at, after, number, is_call, jumps, has_at, row_with, row, next_point, standing_or, numbered, positions_in, positions_from, positions_of, all_rows, IsNaming}
+use Rattle.cc_graph.specs.declared.graph.Points.{Points}
+use Rattle.cc_graph.specs.Evaluated.{standings}
+use Rattle.cc_graph.specs.Graphs.{ArePoints}
+use Rattle.cc_graph.specs.Limit.{most_points}
+use Rattle.cc_program.specs.declared.program.Program.{Program}
 
 either : {A B C : Type 0} → (A → C) → (B → C) → A ⊎ B → C
 either f g (inl a) = f a
@@ -205,8 +210,8 @@ count_evaluated w false k n ps e = omega (arith, e, length-append ps (more Evalu
 count_more : (what : Node) (s : Standing) (k n : ℕ) (ps : List Position) → length ps ≡ k → length (ps ++ positions_in s (row what s k).at n) ≡ next_point s (row what s k) k
 count_more what Evaluated k n ps e = count_evaluated (jumps what) (is_call what) k n ps e
 count_more what Defining k n ps e = omega (arith, e, length-append ps (Entry n ∷ Exit n ∷ []))
-count_more what Unevaluated k n ps e = omega (arith, e, length-append {A = Position} ps [])
-count_more what Declaring k n ps e = omega (arith, e, length-append {A = Position} ps [])
+count_more what Unevaluated k n ps e = omega (arith, e, length-append ps [])
+count_more what Declaring k n ps e = omega (arith, e, length-append ps [])
 
 positions_more : (rows : List Row) (r : Row) (n : ℕ) (done : List Position) → positions_from (rows ++ r ∷ []) n done ≡ positions_from rows n done ++ positions_in r.standing r.at (n + length rows)
 positions_more [] r n done = ap (λ m. done ++ positions_in r.standing r.at m) (let e : n ≡ n + 0 = omega arith in e)
@@ -249,8 +254,14 @@ root_names = record { naming = record { told = root_told; tells = root_tells }; 
 names_of : (standings : List Standing) (nodes : List Placed) (r : Rows) → r ≡ numbered standings nodes 0 [] 1 → Names r.rows (positions_of r.rows) r.points
 names_of standings nodes r e = rw e (names_all standings nodes 0 [] 1 root_names)
 
-pub is_naming : (standings : List Standing) (nodes : List Placed) (r : Rows) (rows : List Row) (positions : List Position) → r ≡ numbered standings nodes 0 [] 1 → rows ≡ r.rows → positions ≡ positions_of rows → IsNaming rows positions
-is_naming standings nodes r rows positions e f g = rw g (rw f (names_of standings nodes r e).naming)
-
-pub is_counted : (standings : List Standing) (nodes : List Placed) (r : Rows) (rows : List Row) (positions : List Position) → r ≡ numbered standings nodes 0 [] 1 → rows ≡ r.rows → positions ≡ positions_of rows → length positions ≡ r.points
-is_counted standings nodes r rows positions e f g = rw g (rw f (names_of standings nodes r e).counted)
+pub are_points : (P : Program) (r : Rows) (it : Points) → r ≡ all_rows P → it.rows ≡ r.rows → it.points ≡ r.points → it.points ≤ most_points → it.positions ≡ positions_of it.rows → ArePoints P it
+are_points P r it e rows points few positions =
+    let names : Names r.rows (positions_of r.rows) r.points = names_of (standings P) P.arena.nodes r e in
+    let is : it.positions ≡ positions_of r.rows = positions ∙ ap positions_of rows in
+    record {
+      rows = rows ∙ ap (λ (z : Rows). z.rows) e;
+      points = points ∙ ap (λ (z : Rows). z.points) e;
+      few = few;
+      counted = ap length is ∙ names.counted ∙ sym points;
+      named = rw is (rw rows names.naming);
+    }

@@ -90,10 +90,18 @@ is_default None = false
 abbrev pub node_at : Arena → ℕ → Option Node
 node_at A n = node_of (slice_get A.nodes n)
 
--- after the expression e to before each label among these items; where none of them is `default`, also to q
-abbrev pub labels : Arena → ℕ → List ℕ → Bool → Position → List Step
-labels A e [] has_default q = if has_default then [] else (After e, q) ∷ []
-labels A e (i ∷ items) has_default q = if is_label (node_at A i) then (After e, Before i) ∷ labels A e items (has_default || is_default (node_at A i)) q else labels A e items has_default q
+-- after the expression e to before each label among these items
+abbrev pub labels : Arena → ℕ → List ℕ → List Step
+labels A e [] = []
+labels A e (i ∷ items) = if is_label (node_at A i) then (After e, Before i) ∷ labels A e items else labels A e items
+
+abbrev pub has_default : Arena → List ℕ → Bool
+has_default A [] = false
+has_default A (i ∷ items) = is_default (node_at A i) || has_default A items
+
+-- the same, and where none of them is `default`, to after the `switch` n
+abbrev pub chosen : Arena → ℕ → ℕ → List ℕ → List Step
+chosen A n e items = if has_default A items then labels A e items else (After e, After n) ∷ labels A e items
 
 abbrev pub items_in : Arena → Option Node → List ℕ
 items_in A (Some (node.Block items)) = stretch A.lists items
@@ -138,7 +146,7 @@ says A rows n (node.Plain e) = runs n (e ∷ [])
 says A rows n node.Empty = runs n []
 says A rows n (node.If c s) = if_then n c s
 says A rows n (node.IfElse c s o) = choice n c s o
-says A rows n (node.Switch e b) = (Before n, Before e) ∷ (After b, After n) ∷ labels A e (items_in A (node_at A b)) false (After n)
+says A rows n (node.Switch e b) = (Before n, Before e) ∷ (After b, After n) ∷ chosen A n e (items_in A (node_at A b))
 says A rows n (node.While c s) = while_loop n c s
 says A rows n (node.Do s c) = do_loop n s c
 says A rows n (node.For start test each s) = for_loop n (start_parts A rows start) test each s

@@ -9,7 +9,7 @@ ghost use Rattle.cc_graph.specs.declared.position.Position.TheVariants.{Before, 
 
 use crate::naming::{Rows, name_points, number_points};
 use crate::node::{link_node, tell_jump};
-use crate::order::all_ordered;
+use crate::order::all_in_order;
 use crate::position::{MAX_POINTS, Point, Position, Row, number};
 use crate::scope::{Scope, scope_at, scopes};
 use crate::standing::standings;
@@ -201,14 +201,13 @@ fn succession(
     let scopes = scopes(alloc, arena)?;
     let mut next = empty(alloc, points)?;
     link_all_nodes(alloc, &mut next, arena, rows, scopes.as_slice())?;
-    all_ordered(alloc, next.as_slice())
+    all_in_order(alloc, next.as_slice())
 }
 
 /// The graph of a program.
 ///
 /// `TooManyPoints` comes exactly where the program has more than [`MAX_POINTS`] control points, want of memory aside, which
-/// may come for any program. Takes time in proportion to the nodes, but for the points that follow one point, whose number
-/// is squared.
+/// may come for any program.
 pub fn lower(alloc: Global, program: &Program) -> Result<Graph, GraphFault>
     ensures graph { IfOk result (λ g. spec.IsGraph program.now g) }
     ensures refused { IfErr result (λ fault. spec.Refuses program.now fault) }

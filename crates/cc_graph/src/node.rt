@@ -1,5 +1,5 @@
 // The steps that a node says, a function for each kind that has a list or cases.
-ghost use Rattle.std.specs.Prelude.{◌≡◌, false, OnOk};
+ghost use Rattle.std.specs.Prelude.{◌≡◌, OnOk};
 ghost use Rattle.cc_arena.specs.declared.node.Node.TheVariants as node;
 ghost use Rattle.cc_graph.specs.Linking.{all_linked, all_told};
 ghost use Rattle.cc_graph.specs.Scopes.{or};
@@ -175,22 +175,44 @@ fn labels(
     rows: &[Row],
     e: u32,
     items: &[u32],
-    to: Position,
 ) -> Result<(), Memory>
-    ensures { OnOk result (next.new.items ≡ all_linked rows.now (spec.labels arena.now e items.now false to) next.old.items) }
+    ensures { OnOk result (next.new.items ≡ all_linked rows.now (spec.labels arena.now e items.now) next.old.items) }
 {
-    let mut has_default = false;
     for item in items {
-        let node = arena.node_at(*item);
-        if is_label(node) {
+        if is_label(arena.node_at(*item)) {
             link(next, rows, Position::After(e), Position::Before(*item))?;
-            has_default = has_default || is_default(node);
         }
     }
-    if has_default {
-        Ok(())
+    Ok(())
+}
+
+fn has_default(arena: &Arena, items: &[u32]) -> bool
+    ensures { result ≡ spec.has_default arena.now items.now }
+{
+    for item in items {
+        if is_default(arena.node_at(*item)) {
+            return true;
+        }
+    }
+    false
+}
+
+// From the expression of a `switch` to the labels among the items, and to its end where none of them is `default`.
+fn chosen(
+    next: &mut Vec<List<Point>>,
+    arena: &Arena,
+    rows: &[Row],
+    n: u32,
+    e: u32,
+    items: &[u32],
+) -> Result<(), Memory>
+    ensures { OnOk result (next.new.items ≡ all_linked rows.now (spec.chosen arena.now n e items.now) next.old.items) }
+{
+    if has_default(arena, items) {
+        labels(next, arena, rows, e, items)
     } else {
-        link(next, rows, Position::After(e), to)
+        link(next, rows, Position::After(e), Position::After(n))?;
+        labels(next, arena, rows, e, items)
     }
 }
 
@@ -207,7 +229,7 @@ fn switch(
     link(next, rows, Position::Before(n), Position::Before(e))?;
     link(next, rows, Position::After(block), Position::After(n))?;
     let items = items_in(arena, arena.node_at(block));
-    labels(next, arena, rows, e, items, Position::After(n))
+    chosen(next, arena, rows, n, e, items)
 }
 
 fn block(
