@@ -177,7 +177,8 @@ fn link_all_nodes(
     scopes: &[Scope],
 ) -> Result<(), Memory>
     requires { length arena.now.nodes < 2 ^ 30 }
-    ensures { OnOk result (next.new.items ≡ lowered arena.now rows.now scopes.now arena.now.nodes 0 next.old.items) }
+    ensures { OnOk result (next.new.items
+        ≡ lowered arena.now rows.now scopes.now arena.now.nodes 0 next.old.items) }
 {
     let nodes = arena.nodes.as_slice();
     for (n, placed) in nodes.iter().enumerate() {
@@ -196,7 +197,8 @@ fn succession(
     points: u32,
 ) -> Result<List<List<Point>>, Memory>
     requires { length arena.now.nodes < 2 ^ 30 }
-    ensures { IfOk result (λ next. IsSuccession arena.now rows.now (scopes_of arena.now) points next) }
+    ensures { IfOk result (λ next.
+        IsSuccession arena.now rows.now (scopes_of arena.now) points next) }
 {
     let scopes = scopes(alloc, arena)?;
     let mut next = empty(alloc, points)?;

@@ -113,7 +113,8 @@ fn push_all(positions: &mut List<Position>, more: &[Position]) -> Result<(), Mem
 
 // Puts the points of the node `n` at the end.
 fn push_positions(positions: &mut List<Position>, row: Row, n: u32) -> Result<(), Memory>
-    ensures { OnOk result (positions.new ≡ positions.old ++ spec.positions_in row.standing row.at n) }
+    ensures { OnOk result (positions.new
+        ≡ positions.old ++ spec.positions_in row.standing row.at n) }
 {
     match row.standing {
         Standing::Unevaluated | Standing::Declaring => Ok(()),

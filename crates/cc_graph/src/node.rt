@@ -49,7 +49,8 @@ fn binary(
     a: u32,
     b: u32,
 ) -> Result<(), Memory>
-    ensures { OnOk result (next.new.items ≡ all_linked rows.now (spec.binary_steps op n a b) next.old.items) }
+    ensures { OnOk result (next.new.items
+        ≡ all_linked rows.now (spec.binary_steps op n a b) next.old.items) }
 {
     match op {
         BinaryOp::AndAnd | BinaryOp::OrOr => link_all(
@@ -75,7 +76,8 @@ fn choice(
     a: u32,
     b: u32,
 ) -> Result<(), Memory>
-    ensures { OnOk result (next.new.items ≡ all_linked rows.now (spec.choice n c a b) next.old.items) }
+    ensures { OnOk result (next.new.items
+        ≡ all_linked rows.now (spec.choice n c a b) next.old.items) }
 {
     link_all(
         next,
@@ -98,7 +100,9 @@ fn call(
     f: u32,
     arguments: Span,
 ) -> Result<(), Memory>
-    ensures { OnOk result (next.new.items ≡ all_linked rows.now (spec.says arena.now rows.now n (node.Call f arguments)) next.old.items) }
+    ensures { OnOk result (next.new.items
+        ≡ all_linked rows.now
+        (spec.says arena.now rows.now n (node.Call f arguments)) next.old.items) }
 {
     link(next, rows, Position::At(n), Position::After(n))?;
     link(next, rows, Position::Before(n), Position::Before(f))?;
@@ -115,7 +119,8 @@ fn for_test(
     test: Option<u32>,
     s: u32,
 ) -> Result<(), Memory>
-    ensures { OnOk result (next.new.items ≡ all_linked rows.now (spec.for_test n parts.now test s) next.old.items) }
+    ensures { OnOk result (next.new.items
+        ≡ all_linked rows.now (spec.for_test n parts.now test s) next.old.items) }
 {
     let round = Position::Before(or(test, s));
     match test {
@@ -138,7 +143,8 @@ fn for_each(
     each: Option<u32>,
     s: u32,
 ) -> Result<(), Memory>
-    ensures { OnOk result (next.new.items ≡ all_linked rows.now (spec.for_each n parts.now test each s) next.old.items) }
+    ensures { OnOk result (next.new.items
+        ≡ all_linked rows.now (spec.for_each n parts.now test each s) next.old.items) }
 {
     match each {
         Some(e) => {
@@ -161,7 +167,9 @@ fn for_loop(
     each: Option<u32>,
     s: u32,
 ) -> Result<(), Memory>
-    ensures { OnOk result (next.new.items ≡ all_linked rows.now (spec.says arena.now rows.now n (node.For start test each s)) next.old.items) }
+    ensures { OnOk result (next.new.items
+        ≡ all_linked rows.now
+        (spec.says arena.now rows.now n (node.For start test each s)) next.old.items) }
 {
     let parts = start_parts(alloc, arena, rows, start)?;
     let onward = Position::Before(or(each, or(test, s)));
@@ -176,7 +184,8 @@ fn labels(
     e: u32,
     items: &[u32],
 ) -> Result<(), Memory>
-    ensures { OnOk result (next.new.items ≡ all_linked rows.now (spec.labels arena.now e items.now) next.old.items) }
+    ensures { OnOk result (next.new.items
+        ≡ all_linked rows.now (spec.labels arena.now e items.now) next.old.items) }
 {
     for item in items {
         if is_label(arena.node_at(*item)) {
@@ -206,7 +215,8 @@ fn chosen(
     e: u32,
     items: &[u32],
 ) -> Result<(), Memory>
-    ensures { OnOk result (next.new.items ≡ all_linked rows.now (spec.chosen arena.now n e items.now) next.old.items) }
+    ensures { OnOk result (next.new.items
+        ≡ all_linked rows.now (spec.chosen arena.now n e items.now) next.old.items) }
 {
     if has_default(arena, items) {
         labels(next, arena, rows, e, items)
@@ -224,7 +234,9 @@ fn switch(
     e: u32,
     block: u32,
 ) -> Result<(), Memory>
-    ensures { OnOk result (next.new.items ≡ all_linked rows.now (spec.says arena.now rows.now n (node.Switch e block)) next.old.items) }
+    ensures { OnOk result (next.new.items
+        ≡ all_linked rows.now
+        (spec.says arena.now rows.now n (node.Switch e block)) next.old.items) }
 {
     link(next, rows, Position::Before(n), Position::Before(e))?;
     link(next, rows, Position::After(block), Position::After(n))?;
@@ -240,7 +252,8 @@ fn block(
     n: u32,
     items: Span,
 ) -> Result<(), Memory>
-    ensures { OnOk result (next.new.items ≡ all_linked rows.now (spec.says arena.now rows.now n (node.Block items)) next.old.items) }
+    ensures { OnOk result (next.new.items
+        ≡ all_linked rows.now (spec.says arena.now rows.now n (node.Block items)) next.old.items) }
 {
     let parts = item_parts(alloc, arena, rows, arena.part_list(items))?;
     runs(next, rows, n, parts.as_slice())
@@ -252,7 +265,8 @@ fn option_runs(
     n: u32,
     part: Option<u32>,
 ) -> Result<(), Memory>
-    ensures { OnOk result (next.new.items ≡ all_linked rows.now (spec.runs n (spec.option_list part)) next.old.items) }
+    ensures { OnOk result (next.new.items
+        ≡ all_linked rows.now (spec.runs n (spec.option_list part)) next.old.items) }
 {
     match part {
         None => runs(next, rows, n, &[]),
@@ -261,7 +275,8 @@ fn option_runs(
 }
 
 fn if_then(next: &mut Vec<List<Point>>, rows: &[Row], n: u32, c: u32, s: u32) -> Result<(), Memory>
-    ensures { OnOk result (next.new.items ≡ all_linked rows.now (spec.if_then n c s) next.old.items) }
+    ensures { OnOk result (next.new.items
+        ≡ all_linked rows.now (spec.if_then n c s) next.old.items) }
 {
     link_all(
         next,
@@ -282,7 +297,8 @@ fn while_loop(
     c: u32,
     s: u32,
 ) -> Result<(), Memory>
-    ensures { OnOk result (next.new.items ≡ all_linked rows.now (spec.while_loop n c s) next.old.items) }
+    ensures { OnOk result (next.new.items
+        ≡ all_linked rows.now (spec.while_loop n c s) next.old.items) }
 {
     link_all(
         next,
@@ -297,7 +313,8 @@ fn while_loop(
 }
 
 fn do_loop(next: &mut Vec<List<Point>>, rows: &[Row], n: u32, s: u32, c: u32) -> Result<(), Memory>
-    ensures { OnOk result (next.new.items ≡ all_linked rows.now (spec.do_loop n s c) next.old.items) }
+    ensures { OnOk result (next.new.items
+        ≡ all_linked rows.now (spec.do_loop n s c) next.old.items) }
 {
     link_all(
         next,
@@ -320,7 +337,8 @@ pub(crate) fn link_node(
     n: u32,
     node: Node,
 ) -> Result<(), Memory>
-    ensures { OnOk result (next.new.items ≡ all_linked rows.now (spec.says arena.now rows.now n node) next.old.items) }
+    ensures { OnOk result (next.new.items
+        ≡ all_linked rows.now (spec.says arena.now rows.now n node) next.old.items) }
 {
     match node {
         Node::Name
@@ -383,7 +401,8 @@ pub(crate) fn tell_jump(
     n: u32,
     node: Node,
 ) -> Result<(), Memory>
-    ensures { OnOk result (next.new.items ≡ all_told rows.now (spec.jump scope n node) next.old.items) }
+    ensures { OnOk result (next.new.items
+        ≡ all_told rows.now (spec.jump scope n node) next.old.items) }
 {
     let after = Position::After(n);
     match (node, scope.leaves, scope.goes_on, scope.function) {

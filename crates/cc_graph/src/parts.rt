@@ -56,7 +56,8 @@ fn push_names(
     rows: &[Row],
     declarators: &[u32],
 ) -> Result<(), Memory>
-    ensures { OnOk result (parts.new ≡ spec.with_names arena.now rows.now declarators.now parts.old) }
+    ensures { OnOk result (parts.new
+        ≡ spec.with_names arena.now rows.now declarators.now parts.old) }
 {
     for d in declarators {
         let name = name_in(arena, *d);

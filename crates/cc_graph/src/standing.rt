@@ -132,7 +132,8 @@ fn all_standings(
     nodes: &[Placed],
 ) -> Result<Slots<Standing>, Memory>
     requires { length nodes.now < 2 ^ 30 }
-    ensures { IfOk result (λ all. all ≡ inherited_from (spec.standing_of program.now) 0 nodes.now 0 []) }
+    ensures { IfOk result (λ all. all
+        ≡ inherited_from (spec.standing_of program.now) 0 nodes.now 0 []) }
 {
     let mut all = Slots::new(alloc);
     for (n, placed) in nodes.iter().enumerate() {

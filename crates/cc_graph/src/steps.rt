@@ -71,7 +71,8 @@ pub(crate) fn through(
     parts: &[u32],
     to: Position,
 ) -> Result<(), Memory>
-    ensures { OnOk result (next.new.items ≡ spec.all_linked rows.now (succession.through from parts.now to) next.old.items) }
+    ensures { OnOk result (next.new.items
+        ≡ spec.all_linked rows.now (succession.through from parts.now to) next.old.items) }
 {
     let mut last = from;
     for part in parts {
@@ -88,7 +89,8 @@ pub(crate) fn runs(
     n: u32,
     parts: &[u32],
 ) -> Result<(), Memory>
-    ensures { OnOk result (next.new.items ≡ spec.all_linked rows.now (succession.runs n parts.now) next.old.items) }
+    ensures { OnOk result (next.new.items
+        ≡ spec.all_linked rows.now (succession.runs n parts.now) next.old.items) }
 {
     through(next, rows, Position::Before(n), parts, Position::After(n))
 }
