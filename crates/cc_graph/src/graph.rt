@@ -1,7 +1,6 @@
 // The whole graph.
-ghost use Rattle.std.specs.Prelude.{◌≡◌, ◌≤◌, ◌<◌, ◌^◌, [], length, map, replicate, slice_get, IfOk, IfErr, OnOk, Unit};
+ghost use Rattle.std.specs.Prelude.{◌≡◌, ◌<◌, ◌^◌, [], length, replicate, slice_get, IfOk, IfErr, OnOk};
 ghost use Rattle.cc_graph.specs.Graphs as spec;
-ghost use Rattle.cc_graph.specs.Limit.{most_points};
 ghost use Rattle.cc_graph.specs.Linking.{lowered, row_of, IsSuccession};
 ghost use Rattle.cc_graph.specs.Points.{number, all_rows};
 ghost use Rattle.cc_graph.specs.Scopes.{scopes_of};
