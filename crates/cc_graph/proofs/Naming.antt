@@ -2,13 +2,12 @@
 use Rattle.std.proofs.Common.{ℕ, zero, suc, ◌+◌, ◌≤◌, ◌<◌, ◌≡◌, ◌⊎◌, inl, inr, Bool, true, false, List, [], ◌∷◌, ◌++◌, Option, Some, None, length, slice_get, refl, sym, ap, subst, ◌∙◌, arith, length-append}
 use Rattle.cc_arena.specs.declared.arena.Placed.{Placed}
 use Rattle.cc_arena.specs.declared.node.Node.{Node}
-use Rattle.cc_graph.specs.declared.naming.Rows.{Rows}
 use Rattle.cc_graph.specs.declared.position.Position.{Position}
 use Rattle.cc_graph.specs.declared.position.Position.TheVariants.{Root, Entry, Exit, Before, At, After}
 use Rattle.cc_graph.specs.declared.position.Row.{Row}
 use Rattle.cc_graph.specs.declared.standing.Standing.{Standing}
 use Rattle.cc_graph.specs.declared.standing.Standing.TheVariants.{Unevaluated, Declaring, Evaluated, Defining}
-use Rattle.cc_graph.specs.Points.{entry, exit, before, at, after, number, is_call, jumps, has_at, row_with, row, next_point, standing_or, numbered, positions_in, positions_from, positions_of, all_rows, IsNaming}
+use Rattle.cc_graph.specs.Points.{entry, exit, before, at, after, number, is_call, jumps, has_at, row_with, row, next_point, standing_or, numbered, positions_in, positions_from, positions_of, rows_of, points_in, IsNaming}
 use Rattle.cc_graph.specs.declared.graph.Points.{Points}
 use Rattle.cc_graph.specs.Evaluated.{standings}
 use Rattle.cc_graph.specs.Graphs.{ArePoints}
@@ -251,16 +250,13 @@ root_tells p (suc k) h = cc
 root_names : Names [] (Root ∷ []) 1
 root_names = record { naming = record { told = root_told; tells = root_tells }; counted = refl }
 
-names_of : (standings : List Standing) (nodes : List Placed) (r : Rows) → r ≡ numbered standings nodes 0 [] 1 → Names r.rows (positions_of r.rows) r.points
-names_of standings nodes r e = rw e (names_all standings nodes 0 [] 1 root_names)
-
-pub are_points : (P : Program) (r : Rows) (it : Points) → r ≡ all_rows P → it.rows ≡ r.rows → it.points ≡ r.points → it.points ≤ most_points → it.positions ≡ positions_of it.rows → ArePoints P it
-are_points P r it e rows points few positions =
-    let names : Names r.rows (positions_of r.rows) r.points = names_of (standings P) P.arena.nodes r e in
-    let is : it.positions ≡ positions_of r.rows = positions ∙ ap positions_of rows in
+pub are_points : (P : Program) (it : Points) → it.rows ≡ rows_of P → it.points ≡ points_in P → it.points ≤ most_points → it.positions ≡ positions_of it.rows → ArePoints P it
+are_points P it rows points few positions =
+    let names : Names (rows_of P) (positions_of (rows_of P)) (points_in P) = names_all (standings P) P.arena.nodes 0 [] 1 root_names in
+    let is : it.positions ≡ positions_of (rows_of P) = positions ∙ ap positions_of rows in
     record {
-      rows = rows ∙ ap (λ (z : Rows). z.rows) e;
-      points = points ∙ ap (λ (z : Rows). z.points) e;
+      rows = rows;
+      points = points;
       few = few;
       counted = ap length is ∙ names.counted ∙ sym points;
       named = rw is (rw rows names.naming);

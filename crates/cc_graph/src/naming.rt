@@ -1,5 +1,5 @@
 // The numbering of the points.
-ghost use Rattle.std.specs.Prelude.{◌≡◌, ◌+◌, ◌<◌, ◌^◌, [], ◌++◌, length, slice_get, IfOk, OnOk};
+ghost use Rattle.std.specs.Prelude.{◌≡◌, ◌+◌, ◌≤◌, ◌<◌, ◌^◌, [], ◌++◌, length, slice_get, IfOk, OnOk};
 ghost use Rattle.cc_graph.specs.Points as spec;
 
 use crate::position::{Position, Row};
@@ -50,7 +50,8 @@ fn has_at(standing: Standing, node: Node) -> bool
 // The row of a node, if its first point is `first`.
 fn row(node: Node, standing: Standing, first: u32) -> Row
     requires { first + 2 < 2 ^ 32 }
-    ensures { result ≡ spec.row node standing first }
+    ensures row { result ≡ spec.row node standing first }
+    ensures near { result.last ≤ first + 2 }
 {
     let jumps = jumps(node);
     if has_at(standing, node) {
@@ -74,8 +75,10 @@ fn row(node: Node, standing: Standing, first: u32) -> Row
 
 // The number after the points of a node, of which `first` would be the first.
 fn next_point(standing: Standing, row: Row, first: u32) -> u32
-    requires { row.last + 1 < 2 ^ 32 }
-    ensures { result ≡ spec.next_point standing row first }
+    requires near { row.last ≤ first + 2 }
+    requires small { first + 3 < 2 ^ 32 }
+    ensures next { result ≡ spec.next_point standing row first }
+    ensures near { result ≤ first + 3 }
 {
     match standing {
         Standing::Unevaluated | Standing::Declaring => first,

@@ -393,6 +393,51 @@ pub(crate) fn link_node(
     }
 }
 
+fn tell_after(
+    next: &mut Vec<List<Point>>,
+    rows: &[Row],
+    from: Position,
+    to: Option<u32>,
+) -> Result<(), Memory>
+    ensures { OnOk result (next.new.items
+        ≡ all_told rows.now (spec.leads_after from to) next.old.items) }
+{
+    match to {
+        Some(m) => tell(next, rows, from, Position::After(m)),
+        None => Ok(()),
+    }
+}
+
+fn tell_before(
+    next: &mut Vec<List<Point>>,
+    rows: &[Row],
+    from: Position,
+    to: Option<u32>,
+) -> Result<(), Memory>
+    ensures { OnOk result (next.new.items
+        ≡ all_told rows.now (spec.leads_before from to) next.old.items) }
+{
+    match to {
+        Some(m) => tell(next, rows, from, Position::Before(m)),
+        None => Ok(()),
+    }
+}
+
+fn tell_exit(
+    next: &mut Vec<List<Point>>,
+    rows: &[Row],
+    from: Position,
+    to: Option<u32>,
+) -> Result<(), Memory>
+    ensures { OnOk result (next.new.items
+        ≡ all_told rows.now (spec.leads_out from to) next.old.items) }
+{
+    match to {
+        Some(m) => tell(next, rows, from, Position::Exit(m)),
+        None => Ok(()),
+    }
+}
+
 /// Adds the step that the word of a jump says.
 pub(crate) fn tell_jump(
     next: &mut Vec<List<Point>>,
@@ -404,11 +449,10 @@ pub(crate) fn tell_jump(
     ensures { OnOk result (next.new.items
         ≡ all_told rows.now (spec.jump scope n node) next.old.items) }
 {
-    let after = Position::After(n);
-    match (node, scope.leaves, scope.goes_on, scope.function) {
-        (Node::Break, Some(m), _, _) => tell(next, rows, after, Position::After(m)),
-        (Node::Continue, _, Some(m), _) => tell(next, rows, after, Position::Before(m)),
-        (Node::Return(_), _, _, Some(m)) => tell(next, rows, after, Position::Exit(m)),
+    match node {
+        Node::Break => tell_after(next, rows, Position::After(n), scope.leaves),
+        Node::Continue => tell_before(next, rows, Position::After(n), scope.goes_on),
+        Node::Return(_) => tell_exit(next, rows, Position::After(n), scope.function),
         _ => Ok(()),
     }
 }
