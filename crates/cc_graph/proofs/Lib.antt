@@ -1,3 +1,3 @@
 pub mod Gains
-pub mod Naming
+pub mod PointNames
 pub mod Ordering

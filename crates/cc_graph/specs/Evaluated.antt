@@ -79,13 +79,13 @@ standing_below p (Some above) n what (Some own) = standing_in p above n what own
 standing_below p (Some above) n what None = Unevaluated
 standing_below p None n what own = Unevaluated
 
--- the node n, which is x; the node of which it is a part stands so
-abbrev pub standing_from : Program → Node → ℕ → Placed → Option Standing → Standing
-standing_from p (node.Definition d b) n x own = Defining
-standing_from p what n x own = standing_below p (node_of (slice_get p.arena.nodes x.parent)) n what own
+abbrev pub is_definition : Node → Bool
+is_definition (node.Definition d block) = true
+is_definition what = false
 
+-- the node n, which is x; the node of which it is a part stands so
 abbrev pub standing_of : Program → ℕ → Placed → Option Standing → Standing
-standing_of p n x own = standing_from p x.node n x own
+standing_of p n x own = if is_definition x.node then Defining else standing_below p (node_of (slice_get p.arena.nodes x.parent)) n x.node own
 
 -- of all nodes
 abbrev pub standings : Program → List Standing

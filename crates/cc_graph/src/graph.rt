@@ -123,17 +123,43 @@ impl Graph {
     }
 }
 
+// The points of a program, by node and by number.
+#[derive(Drop)]
+struct Points {
+    rows: Slots<Row>,
+    points: u32,
+    positions: List<Position>,
+}
+
 // The points of all nodes, and how many there are.
 fn numbering(alloc: Global, program: &Program) -> Result<Rows, Memory>
     requires { length program.now.arena.nodes < 2 ^ 30 }
     ensures { IfOk result (λ r. r ≡ all_rows program.now) }
 {
     let standings = standings(alloc, program)?;
-    number_points(
-        alloc,
-        program.arena().nodes.as_slice(),
-        standings.as_slice(),
-    )
+    let nodes = program.arena().nodes.as_slice();
+    number_points(alloc, nodes, standings.as_slice())
+}
+
+// The points of a program, if there are no more of them than the limit.
+#[tactic(auto, using(crate::proofs::PointNames::are_points))]
+fn all_points(alloc: Global, program: &Program) -> Result<Points, GraphFault>
+    requires { length program.now.arena.nodes < 2 ^ 30 }
+    ensures points { IfOk result (λ p. spec.ArePoints program.now p) }
+    ensures refused { IfErr result (λ fault. spec.Refuses program.now fault) }
+{
+    let Rows { rows, points } = numbering(alloc, program)?;
+    if points > MAX_POINTS {
+        return Err(GraphFault::TooManyPoints {
+            count: points as u64,
+        });
+    }
+    let positions = name_points(alloc, rows.as_slice())?;
+    Ok(Points {
+        rows,
+        points,
+        positions,
+    })
 }
 
 fn definition_of(arena: &Arena, function: &Function) -> Option<u32>

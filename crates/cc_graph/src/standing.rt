@@ -107,16 +107,37 @@ fn standing_in(program: &Program, above: Node, n: u32, what: Node, own: Standing
     }
 }
 
+fn is_definition(node: Node) -> bool
+    ensures { result ≡ spec.is_definition node }
+{
+    matches!(node, Node::Definition(_, _))
+}
+
+// The node `n`, which is `what`, a part of `above`, if it is there, which stands as `own` says.
+fn standing_below(
+    program: &Program,
+    above: Option<Node>,
+    n: u32,
+    what: Node,
+    own: Option<Standing>,
+) -> Standing
+    ensures { result ≡ spec.standing_below program.now above n what own }
+{
+    match (above, own) {
+        (Some(above), Some(own)) => standing_in(program, above, n, what, own),
+        _ => Standing::Unevaluated,
+    }
+}
+
 // The node `n`, which is `placed`; `own` is how the node stands of which it is a part.
 fn standing_of(program: &Program, n: u32, placed: Placed, own: Option<Standing>) -> Standing
     ensures { result ≡ spec.standing_of program.now n placed own }
 {
-    match placed.node {
-        Node::Definition(_, _) => Standing::Defining,
-        what => match (program.node(placed.parent), own) {
-            (Some(above), Some(own)) => standing_in(program, above, n, what, own),
-            _ => Standing::Unevaluated,
-        },
+    if is_definition(placed.node) {
+        Standing::Defining
+    } else {
+        let above = program.node(placed.parent);
+        standing_below(program, above, n, placed.node, own)
     }
 }
 
