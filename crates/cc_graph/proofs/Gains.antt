@@ -157,7 +157,7 @@ module _ (A : Arena) (rows : List Row) (scopes : List Scope) where
       let empty = subst (λ (xs : List ℕ). Contains xs j) (get_or-replicate points k [] [] w) has in
       omega arith
 
-  pub is_succession : (points : ℕ) (start next : Next) → start ≡ replicate points [] → next ≡ lowered A rows scopes A.nodes 0 start → IsSuccession A rows scopes points (map in_order next)
+  is_succession : (points : ℕ) (start next : Next) → start ≡ replicate points [] → next ≡ lowered A rows scopes A.nodes 0 start → IsSuccession A rows scopes points (map in_order next)
   is_succession points start next is_start is_next =
       let empty : Next = replicate points [] in
       let h = gains_as to_follows from_follows (lowered_gains A.nodes 0 empty) in
@@ -171,6 +171,8 @@ module _ (A : Arena) (rows : List Row) (scopes : List Scope) where
       } in
       rw is goal
 
-pub lower_is : (A : Arena) (rows : List Row) (scopes scopes' : List Scope) (points : ℕ) (start next all : Next) → scopes' ≡ scopes → start ≡ replicate points [] → next ≡ lowered A rows scopes' A.nodes 0 start → all ≡ map in_order next → IsSuccession A rows scopes points all
-lower_is A rows scopes scopes' points start next all f g h is =
-    rw is (is_succession A rows scopes points start next g (h ∙ ap (λ s. lowered A rows s A.nodes 0 start) f))
+-- the lists with what all nodes say, each in order
+pub lower_is : (A : Arena) (rows : List Row) (scopes : List Scope) (points : ℕ) (all : Next) → all ≡ map in_order (lowered A rows scopes A.nodes 0 (replicate points [])) → IsSuccession A rows scopes points all
+lower_is A rows scopes points all is =
+    let empty : Next = replicate points [] in
+    rw is (is_succession A rows scopes points empty (lowered A rows scopes A.nodes 0 empty) refl refl)

@@ -215,6 +215,7 @@ fn link_all_nodes(
 }
 
 // The points that follow each point.
+#[tactic(auto, using(crate::proofs::Gains::lower_is))]
 fn succession(
     alloc: Global,
     arena: &Arena,
@@ -222,19 +223,21 @@ fn succession(
     points: u32,
 ) -> Result<List<List<Point>>, Memory>
     requires { length arena.now.nodes < 2 ^ 30 }
-    ensures { IfOk result (λ next.
-        IsSuccession arena.now rows.now (scopes_of arena.now) points next) }
+    ensures { IfOk result (λ all.
+        IsSuccession arena.now rows.now (scopes_of arena.now) points all) }
 {
     let scopes = scopes(alloc, arena)?;
     let mut next = empty(alloc, points)?;
     link_all_nodes(alloc, &mut next, arena, rows, scopes.as_slice())?;
-    all_in_order(alloc, next.as_slice())
+    let all = all_in_order(alloc, next.as_slice())?;
+    Ok(all)
 }
 
 /// The graph of a program.
 ///
 /// `TooManyPoints` comes exactly where the program has more than [`MAX_POINTS`] control points, want of memory aside, which
 /// may come for any program.
+#[tactic(auto, using(crate::proofs::Lowering::is_graph))]
 pub fn lower(alloc: Global, program: &Program) -> Result<Graph, GraphFault>
     ensures graph { IfOk result (λ g. spec.IsGraph program.now g) }
     ensures refused { IfErr result (λ fault. spec.Refuses program.now fault) }
