@@ -145,12 +145,12 @@ module _ (A : Arena) (rows : List Row) (scopes : List Scope) where
   lowered_gains (x ∷ xs) n next = gains_as (to_one x xs n) (from_one x xs n) (gains_on (node_gains n x next) (lowered_gains xs (n + 1) (node_linked A rows scopes n x next)))
 
   to_follows : (k j : ℕ) → OneTells A.nodes 0 k j → Follows A rows scopes k j
-  to_follows k j (i, x, at, inl (p, q, has, f, g)) = (p, q, i, x, inl (record { there = at; has = subst (λ m. Contains (says A rows m x.node) (p, q)) (omega arith) has }, f), g)
-  to_follows k j (i, x, at, inr (p, q, has, f, g)) = (p, q, i, x, inr (record { there = at; has = subst (λ m. Contains (jump (scope_at scopes x.parent) m x.node) (p, q)) (omega arith) has }, f), g)
+  to_follows k j (i, x, at, inl (p, q, has, f, g)) = (p, q, (i, x, inl (record { there = at; has = subst (λ m. Contains (says A rows m x.node) (p, q)) (omega arith) has }, f), g))
+  to_follows k j (i, x, at, inr (p, q, has, f, g)) = (p, q, (i, x, inr (record { there = at; has = subst (λ m. Contains (jump (scope_at scopes x.parent) m x.node) (p, q)) (omega arith) has }, f), g))
 
   from_follows : (k j : ℕ) → Follows A rows scopes k j → OneTells A.nodes 0 k j
-  from_follows k j (p, q, n, x, inl (h, f), g) = (n, x, h.there, inl (p, q, subst (λ m. Contains (says A rows m x.node) (p, q)) (omega arith) h.has, f, g))
-  from_follows k j (p, q, n, x, inr (h, f), g) = (n, x, h.there, inr (p, q, subst (λ m. Contains (jump (scope_at scopes x.parent) m x.node) (p, q)) (omega arith) h.has, f, g))
+  from_follows k j (p, q, (n, x, inl (h, f), g)) = (n, x, h.there, inl (p, q, subst (λ m. Contains (says A rows m x.node) (p, q)) (omega arith) h.has, f, g))
+  from_follows k j (p, q, (n, x, inr (h, f), g)) = (n, x, h.there, inr (p, q, subst (λ m. Contains (jump (scope_at scopes x.parent) m x.node) (p, q)) (omega arith) h.has, f, g))
 
   none_in : (points k j : ℕ) → k < points → Contains (row_of (replicate points []) k) j → ⊥
   none_in points k j w has =

@@ -127,6 +127,7 @@ evaluated_told w false k n j (At m) u e h = cc
 evaluated_told w false k n j (After m) u e h = (1, same k 1 j h, ap (λ i. Some (After i)) (sym e))
 evaluated_told w b k n j (Entry m) u e h = cc
 evaluated_told w b k n j (Exit m) u e h = cc
+evaluated_told w b k n j Root u e h = elim u [ ]
 
 -- a point of the new row stands among its positions
 told : (what : Node) (s : Standing) (k n j : ℕ) (p : Position) → IsOfNode p → place_of p ≡ n → said p (Some (row what s k)) ≡ Some j → StandsAt (positions_in s (row what s k).at n) k j p
@@ -146,6 +147,9 @@ told what Declaring k n j (Exit m) u e h = cc
 told what Declaring k n j (Before m) u e h = cc
 told what Declaring k n j (At m) u e h = cc
 told what Declaring k n j (After m) u e h = cc
+told what Unevaluated k n j Root u e h = elim u [ ]
+told what Declaring k n j Root u e h = elim u [ ]
+told what Defining k n j Root u e h = elim u [ ]
 
 -- p is the i-th point of the row
 abbrev IsPoint : Row → ℕ → ℕ → ℕ → Position → Type 0
@@ -183,7 +187,7 @@ record Names (rows : List Row) (positions : List Position) (k : ℕ) : Type 0 wh
 told_more : (rows : List Row) (positions : List Position) (k : ℕ) (what : Node) (s : Standing) → Names rows positions k → (p : Position) (j : ℕ) → IsNew rows (row what s k) p j → IsOfNode p → slice_get (positions ++ positions_in s (row what s k).at (length rows)) j ≡ Some p
 told_more rows positions k what s h p j new u =
     let t = told what s k (length rows) j p u new.0 new.1 in
-    get_right positions (positions_in s (row what s k).at (length rows)) t.0 j (omega (arith, t.1.0, h.counted)) ∙ t.1.1
+    get_right positions (positions_in s (row what s k).at (length rows)) t.0 j (omega (arith, t.1, h.counted)) ∙ t.2
 
 told_then : (rows : List Row) (positions : List Position) (k : ℕ) (what : Node) (s : Standing) → Names rows positions k → (p : Position) (j : ℕ) → number (rows ++ row what s k ∷ []) p ≡ Some j → slice_get (positions ++ positions_in s (row what s k).at (length rows)) j ≡ Some p
 told_then rows positions k what s h Root j e = get_left positions _ j Root (h.naming.told Root j e)

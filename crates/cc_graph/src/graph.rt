@@ -134,7 +134,8 @@ struct Points {
 // The points of all nodes, and how many there are.
 fn numbering(alloc: Global, program: &Program) -> Result<Rows, Memory>
     requires { length program.now.arena.nodes < 2 ^ 30 }
-    ensures { IfOk result (λ r. r ≡ all_rows program.now) }
+    ensures all { IfOk result (λ r. r ≡ all_rows program.now) }
+    ensures few { IfOk result (λ r. length r.rows < 2 ^ 30) }
 {
     let standings = standings(alloc, program)?;
     let nodes = program.arena().nodes.as_slice();
@@ -142,7 +143,6 @@ fn numbering(alloc: Global, program: &Program) -> Result<Rows, Memory>
 }
 
 // The points of a program, if there are no more of them than the limit.
-#[tactic(auto, using(crate::proofs::PointNames::are_points))]
 fn all_points(alloc: Global, program: &Program) -> Result<Points, GraphFault>
     requires { length program.now.arena.nodes < 2 ^ 30 }
     ensures points { IfOk result (λ p. spec.ArePoints program.now p) }

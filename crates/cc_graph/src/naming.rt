@@ -93,7 +93,8 @@ pub(crate) fn number_points(
     standings: &[Standing],
 ) -> Result<Rows, Memory>
     requires { length nodes.now < 2 ^ 30 }
-    ensures { IfOk result (λ r. r ≡ spec.numbered standings.now nodes.now 0 [] 1) }
+    ensures numbered { IfOk result (λ r. r ≡ spec.numbered standings.now nodes.now 0 [] 1) }
+    ensures long { IfOk result (λ r. length r.rows ≡ length nodes.now) }
 {
     let mut rows = Slots::new(alloc);
     let mut next = 1;
