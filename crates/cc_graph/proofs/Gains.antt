@@ -1,5 +1,5 @@
 -- What the lists gain by a step, by what a node says, and by all nodes.
-use Rattle.std.proofs.Common.{ℕ, zero, suc, ◌+◌, ◌-◌, ◌≤◌, ◌<◌, ◌≡◌, ◌≢◌, ◌⊎◌, inl, inr, List, [], ◌∷◌, ◌++◌, Option, Some, None, length, drop, slice_get, get_or, set, replicate, map, refl, sym, ap, subst, ◌∙◌, arith, length-append}
+use Rattle.std.proofs.Common.{ℕ, zero, suc, ◌+◌, ◌<◌, ◌≡◌, ◌≢◌, ◌⊎◌, inl, inr, List, [], ◌∷◌, ◌++◌, Option, Some, None, length, slice_get, replicate, map, refl, sym, ap, subst, ◌∙◌, arith}
 use Rattle.std.specs.List.{Contains}
 use Rattle.std.proofs.lemmas.List.{length-map, length-set, length-replicate, get_or-set_same, get_or-set_other, get_or-replicate}
 use Rattle.std.proofs.lemmas.List.Elements.{Contains-append_left, Contains-append_right, Contains-append_cases}
@@ -11,7 +11,7 @@ use Rattle.cc_graph.specs.declared.position.Row.{Row}
 use Rattle.cc_graph.specs.declared.position.Position.{Position}
 use Rattle.cc_graph.specs.Points.{number, source}
 use Rattle.cc_graph.specs.Scopes.{scope_at}
-use Rattle.cc_graph.specs.Succession.{Step, says, jump, Says, Jumps, FollowsAt, Follows}
+use Rattle.cc_graph.specs.Succession.{Step, says, jump, Follows}
 use Rattle.cc_graph.specs.Order.{in_order}
 use Rattle.cc_graph.proofs.Ordering.{ordered_only, ordered_kept, ordered_ascends}
 use Rattle.cc_graph.specs.Linking.{Next, row_of, with_step, added, linked, told, all_linked, all_told, node_linked, lowered, IsSuccession}

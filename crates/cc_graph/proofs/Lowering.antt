@@ -1,6 +1,5 @@
 -- The parts of a graph make it the graph of the program.
-use Rattle.std.proofs.Common.{ℕ, ◌≡◌, List, length, refl, sym, ap, subst, ◌∙◌}
-use Rattle.cc_arena.specs.declared.arena.Arena.{Arena}
+use Rattle.std.proofs.Common.{◌≡◌, List, length, sym, ap, subst, ◌∙◌}
 use Rattle.cc_program.specs.declared.program.Program.{Program}
 use Rattle.cc_graph.specs.declared.graph.Graph.{Graph}
 use Rattle.cc_graph.specs.declared.graph.Points.{Points}

@@ -1,5 +1,5 @@
 -- Each point stands at its number, and nothing else does.
-use Rattle.std.proofs.Common.{ℕ, zero, suc, ◌+◌, ◌≤◌, ◌<◌, ◌≡◌, ◌⊎◌, inl, inr, Bool, true, false, List, [], ◌∷◌, ◌++◌, Option, Some, None, length, slice_get, refl, sym, ap, subst, ◌∙◌, arith, length-append}
+use Rattle.std.proofs.Common.{ℕ, zero, suc, ◌+◌, ◌≤◌, ◌≡◌, ◌⊎◌, inl, inr, Bool, true, false, List, [], ◌∷◌, ◌++◌, Option, Some, None, length, slice_get, refl, sym, ap, subst, ◌∙◌, arith, length-append}
 use Rattle.cc_arena.specs.declared.arena.Placed.{Placed}
 use Rattle.cc_arena.specs.declared.node.Node.{Node}
 use Rattle.cc_graph.specs.declared.position.Position.{Position}
@@ -7,7 +7,7 @@ use Rattle.cc_graph.specs.declared.position.Position.TheVariants.{Root, Entry, E
 use Rattle.cc_graph.specs.declared.position.Row.{Row}
 use Rattle.cc_graph.specs.declared.standing.Standing.{Standing}
 use Rattle.cc_graph.specs.declared.standing.Standing.TheVariants.{Unevaluated, Declaring, Evaluated, Defining}
-use Rattle.cc_graph.specs.Points.{entry, exit, before, at, after, number, is_call, jumps, has_at, row_with, row, next_point, standing_or, numbered, positions_in, positions_from, positions_of, rows_of, points_in, IsNaming}
+use Rattle.cc_graph.specs.Points.{entry, exit, before, at, after, number, is_call, jumps, row_with, row, next_point, standing_or, numbered, positions_in, positions_from, positions_of, rows_of, points_in, IsNaming}
 use Rattle.cc_graph.specs.declared.graph.Points.{Points}
 use Rattle.cc_graph.specs.Evaluated.{standings}
 use Rattle.cc_graph.specs.Graphs.{ArePoints}

@@ -1,5 +1,5 @@
 -- Which point may come next after which, over calls and returns.
-use Rattle.std.specs.Prelude.{ℕ, ◌≡◌, List, Option, Some, None, slice_get}
+use Rattle.std.specs.Prelude.{ℕ, ◌≡◌, Option, Some, slice_get}
 use Rattle.std.specs.List.{Contains}
 use Rattle.cc_arena.specs.declared.arena.Placed.{Placed}
 use Rattle.cc_arena.specs.declared.node.Node.{Node}
@@ -12,7 +12,7 @@ use Rattle.cc_program.specs.declared.program.Program.{Program}
 use Rattle.cc_program.specs.declared.program.Referent.{Referent}
 use Rattle.cc_program.specs.declared.program.Referent.TheVariants as referent
 use Rattle.cc_graph.specs.declared.position.Position.{Position}
-use Rattle.cc_graph.specs.declared.position.Position.TheVariants.{Root, Entry, Exit, Before, At, After}
+use Rattle.cc_graph.specs.declared.position.Position.TheVariants.{Root, Entry, Exit, At, After}
 use Rattle.cc_graph.specs.Graphs.{definitions_of, defined_by}
 use Rattle.cc_graph.specs.Points.{number, rows_of}
 use Rattle.cc_graph.specs.Scopes.{scope_at, scopes_of}

@@ -1,5 +1,5 @@
 -- What `lower` answers, and what a graph tells.
-use Rattle.std.specs.Prelude.{ℕ, ◌≡◌, ◌≤◌, ◌<◌, List, [], ◌∷◌, map, Option, Some, None, slice_get, length}
+use Rattle.std.specs.Prelude.{ℕ, ◌≡◌, ◌≤◌, ◌<◌, List, map, Option, Some, None, slice_get, length}
 use Rattle.cc_arena.specs.Arenas.{parent_of}
 use Rattle.cc_arena.specs.declared.arena.Arena.{Arena}
 use Rattle.cc_program.specs.declared.function.Function.{Function}
