@@ -1,0 +1,3 @@
+pub mod Args
+pub mod Behind
+pub mod Names
