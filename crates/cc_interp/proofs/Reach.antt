@@ -99,8 +99,8 @@ begun_at old mid new G r m0 m m' at h t = record {
   run_is = λ k. (
     prepend t.others (go_on (outcome r m') (drive G k)),
     leads_on G r m0 m m' at.events at.steps at.empty at.leads h k
-    ∙ ap (λ es. prepend (at.events ++ es) (go_on (outcome r m') (drive G k))) t.begins
-    ∙ ap (λ es. prepend es (go_on (outcome r m') (drive G k))) (sym (append_assoc at.events t.some t.others))
-    ∙ sym (prepend_on (at.events ++ t.some) t.others (go_on (outcome r m') (drive G k))),
+        ∙ ap (λ es. prepend (at.events ++ es) (go_on (outcome r m') (drive G k))) t.begins
+        ∙ ap (λ es. prepend es (go_on (outcome r m') (drive G k))) (sym (append_assoc at.events t.some t.others))
+        ∙ sym (prepend_on (at.events ++ t.some) t.others (go_on (outcome r m') (drive G k))),
   );
 }

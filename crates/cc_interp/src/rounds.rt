@@ -10,7 +10,11 @@ use cc_meaning::Watch;
 
 /// Runs the machine from where it is until the test's call has returned or the run stops, and tells the watcher exactly the
 /// events of its run. After 2^64 steps it gives up, as if memory were wanting.
-pub fn run_machine<W: Watch>(m: &mut Machine, acts: &Acts, watch: &mut W) -> Result<Option<Stop>, Memory>
+pub fn run_machine<W: Watch>(
+    m: &mut Machine,
+    acts: &Acts,
+    watch: &mut W,
+) -> Result<Option<Stop>, Memory>
     requires empty { m.old.outbox ≡ [] }
     ensures ran { IfOk result (λ stop. Ran (W.stands_for watch.old) (W.stands_for watch.new) acts.now m.old stop m.new) }
     ensures err { OnErr result (Begun (W.stands_for watch.old) (W.stands_for watch.new) acts.now m.old) }

@@ -43,6 +43,13 @@ impl<T> Row<T> {
 }
 
 impl<T> Row<T> {
+    /// The items, in order.
+    pub fn as_slice(&self) -> &[T]
+        ensures { result.now ≡ self.now }
+    {
+        &self.items
+    }
+
     /// The items from number `from` on, at most `count`.
     pub fn part(&self, from: usize, count: usize) -> &[T]
         ensures { result.now ≡ take count (drop from self.now) }
