@@ -10,7 +10,7 @@ use Rattle.cc_store.specs.declared.value.Value.{Value}
 use Rattle.cc_store.specs.declared.value.Value.TheVariants.{Unwritten, Int, Null, Function, Points}
 use Rattle.cc_store.specs.Stacks.{first, rest}
 use Rattle.cc_acts.specs.declared.act.Act.{Act}
-use Rattle.cc_acts.specs.declared.act.Act.TheVariants as act
+use Rattle.cc_acts.specs.declared.act.Act.TheVariants as acts
 use Rattle.cc_acts.specs.declared.acts.Acts.{Acts}
 use Rattle.cc_acts.specs.declared.acts.Case.{Case}
 use Rattle.cc_acts.specs.declared.acts.Filler.{Filler}
@@ -303,35 +303,35 @@ return_none occ next frame ops callers = goes next (returning occ Unwritten fram
 
 -- one act
 abbrev pub act_by : Acts → Act → Frame → List Entry → List Caller → Part Config
-act_by G (act.Skip next) frame ops callers = goes next frame ops callers
-act_by G (act.Constant occ v next) frame ops callers = push occ next frame ops callers v
-act_by G (act.Hand occ next) frame ops callers = hand occ next frame (rest ops) callers (first ops)
-act_by G (act.Name occ object gives next) frame ops callers = name occ object gives next frame ops callers
-act_by G (act.Target occ gives next) frame ops callers = target occ gives next frame (rest ops) callers (first ops)
-act_by G (act.Element occ gives next) frame ops callers = element occ gives next frame (rest ops) callers (first ops)
-act_by G (act.Member occ lvalue cells offset gives next) frame ops callers = member occ lvalue cells offset gives next frame (rest ops) callers (first ops)
-act_by G (act.Forget next) frame ops callers = goes next frame (rest ops) callers
-act_by G (act.Convert occ to next) frame ops callers = convert_to occ to next frame (rest ops) callers (first ops)
-act_by G (act.Unary occ op kind next) frame ops callers = unary_on occ op kind next frame (rest ops) callers (first ops)
-act_by G (act.Truth occ is_negated next) frame ops callers = truth_on occ is_negated next frame (rest ops) callers (first ops)
-act_by G (act.Binary occ operator next) frame ops callers = binary occ operator next frame (rest ops) callers (first ops)
-act_by G (act.Store lvalue occ to next) frame ops callers = store lvalue occ to next frame (rest ops) callers (first ops)
-act_by G (act.Copy lvalue occ count next) frame ops callers = copy_of lvalue occ count next frame ops callers (slice_get ops count)
-act_by G (act.Update lvalue occ operator to next) frame ops callers = update lvalue occ operator to next frame (rest ops) callers (first ops)
-act_by G (act.Step lvalue occ operator to is_after next) frame ops callers = step_on lvalue occ operator to is_after next frame (rest ops) callers (first ops) (Int (pos 1))
-act_by G (act.Branch one other) frame ops callers = branch one other frame (rest ops) callers (first ops)
-act_by G (act.Shortcut occ when right next) frame ops callers = shortcut occ when right next frame (rest ops) callers (first ops)
-act_by G (act.Select kind from count other) frame ops callers = select G kind from count other frame (rest ops) callers (first ops)
-act_by G (act.Call occ count is_used next) frame ops callers = call G occ is_used next frame ops callers (slice_get ops count)
-act_by G (act.Ask occ callee count result next) frame ops callers = asked occ callee count result next frame ops callers
-act_by G (act.Enter callee from formals names next) frame ops callers = enter_at G callee from formals names next ops callers
-act_by G (act.Leave names) frame ops callers = leave_with names frame ops callers
-act_by G (act.Return occ to next) frame ops callers = return_by occ to next frame (rest ops) callers (first ops)
-act_by G (act.ReturnNone occ next) frame ops callers = return_none occ next frame ops callers
-act_by G (act.Make declarator cells name next) frame ops callers = made_at declarator cells name next frame ops callers
-act_by G (act.Init declarator name to next) frame ops callers = init declarator name to next frame ops callers
-act_by G (act.Fill declarator name from fillers count next) frame ops callers = filled G declarator name from fillers count next frame ops callers
-act_by G (act.Drop from count next) frame ops callers = ended_at from count next frame ops callers
+act_by G (acts.Skip next) frame ops callers = goes next frame ops callers
+act_by G (acts.Constant occ v next) frame ops callers = push occ next frame ops callers v
+act_by G (acts.Hand occ next) frame ops callers = hand occ next frame (rest ops) callers (first ops)
+act_by G (acts.Name occ object gives next) frame ops callers = name occ object gives next frame ops callers
+act_by G (acts.Target occ gives next) frame ops callers = target occ gives next frame (rest ops) callers (first ops)
+act_by G (acts.Element occ gives next) frame ops callers = element occ gives next frame (rest ops) callers (first ops)
+act_by G (acts.Member occ lvalue cells offset gives next) frame ops callers = member occ lvalue cells offset gives next frame (rest ops) callers (first ops)
+act_by G (acts.Forget next) frame ops callers = goes next frame (rest ops) callers
+act_by G (acts.Convert occ to next) frame ops callers = convert_to occ to next frame (rest ops) callers (first ops)
+act_by G (acts.Unary occ op kind next) frame ops callers = unary_on occ op kind next frame (rest ops) callers (first ops)
+act_by G (acts.Truth occ is_negated next) frame ops callers = truth_on occ is_negated next frame (rest ops) callers (first ops)
+act_by G (acts.Binary occ operator next) frame ops callers = binary occ operator next frame (rest ops) callers (first ops)
+act_by G (acts.Store lvalue occ to next) frame ops callers = store lvalue occ to next frame (rest ops) callers (first ops)
+act_by G (acts.Copy lvalue occ count next) frame ops callers = copy_of lvalue occ count next frame ops callers (slice_get ops count)
+act_by G (acts.Update lvalue occ operator to next) frame ops callers = update lvalue occ operator to next frame (rest ops) callers (first ops)
+act_by G (acts.Step lvalue occ operator to is_after next) frame ops callers = step_on lvalue occ operator to is_after next frame (rest ops) callers (first ops) (Int (pos 1))
+act_by G (acts.Branch one other) frame ops callers = branch one other frame (rest ops) callers (first ops)
+act_by G (acts.Shortcut occ when right next) frame ops callers = shortcut occ when right next frame (rest ops) callers (first ops)
+act_by G (acts.Select kind from count other) frame ops callers = select G kind from count other frame (rest ops) callers (first ops)
+act_by G (acts.Call occ count is_used next) frame ops callers = call G occ is_used next frame ops callers (slice_get ops count)
+act_by G (acts.Ask occ callee count result next) frame ops callers = asked occ callee count result next frame ops callers
+act_by G (acts.Enter callee from formals names next) frame ops callers = enter_at G callee from formals names next ops callers
+act_by G (acts.Leave names) frame ops callers = leave_with names frame ops callers
+act_by G (acts.Return occ to next) frame ops callers = return_by occ to next frame (rest ops) callers (first ops)
+act_by G (acts.ReturnNone occ next) frame ops callers = return_none occ next frame ops callers
+act_by G (acts.Make declarator cells name next) frame ops callers = made_at declarator cells name next frame ops callers
+act_by G (acts.Init declarator name to next) frame ops callers = init declarator name to next frame ops callers
+act_by G (acts.Fill declarator name from fillers count next) frame ops callers = filled G declarator name from fillers count next frame ops callers
+act_by G (acts.Drop from count next) frame ops callers = ended_at from count next frame ops callers
 
 abbrev pub turn_if : Bool → Part Config → Part Config
 turn_if true m = takes_turn m

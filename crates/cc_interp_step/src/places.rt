@@ -119,7 +119,9 @@ fn read_cells(
         return Err(Memory);
     }
     let act = m.frame.act;
-    for k in 0..count {
+    let mut k: u32 = 0;
+    let mut left = count;
+    while left > 0 {
         let q = cell_on(p, k);
         match m.state.store.read(q) {
             Err(kind) => return Ok(Outcome::Stopped(undefined(occ, kind))),
@@ -132,6 +134,8 @@ fn read_cells(
                 m.operands.push(Entry { occ, value })?;
             }
         }
+        k += 1;
+        left -= 1;
     }
     m.point = next;
     Ok(Outcome::Next)

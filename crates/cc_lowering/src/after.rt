@@ -1,6 +1,6 @@
 // The act at the point after a node: what the node around it does with its value.
 use crate::act_of::Look;
-use crate::around::{around, around as outer, gives_at, gives_one, inside};
+use crate::around::{gives_at, gives_one, inside, outside};
 use crate::numbers::declared_type;
 use crate::operators::{compound_of, operator_at, step_operator};
 use crate::types::{
@@ -342,10 +342,10 @@ impl<'a> Look<'a> {
     // Whether the value of a call is used: it is not, parentheses aside, a whole expression statement, a whole first or third
     // clause of a `for` or an operand of the comma there, or the operand of a cast to void.
     fn is_used(&self, n: u32) -> bool {
-        let mut around = around(self.program, n);
+        let mut around = outside(self.program, n);
         for _ in 0..u32::MAX {
             match around.node {
-                Some(Node::Comma(_, _)) => around = outer(self.program, around.up),
+                Some(Node::Comma(_, _)) => around = outside(self.program, around.up),
                 Some(Node::Plain(_)) => return false,
                 Some(Node::For(start, _, third, _)) => {
                     return start != Some(around.child) && third != Some(around.child);

@@ -15,7 +15,7 @@ pub struct Around {
 }
 
 /// What stands around an expression, parentheses aside.
-pub fn around(program: &Program, n: u32) -> Around {
+pub fn outside(program: &Program, n: u32) -> Around {
     let mut child = n;
     for _ in 0..u32::MAX {
         let up = program.parent_of(child).unwrap_or(child);
@@ -71,7 +71,7 @@ fn gives_by_type(program: &Program, t: Option<ExprType>) -> Gives {
 
 /// What an evaluated lvalue gives.
 pub fn gives_at(program: &Program, n: u32) -> Gives {
-    let around = around(program, n);
+    let around = outside(program, n);
     match around.node {
         Some(Node::Unary(UnaryOp::Address, _)) | Some(Node::Member(_)) => Gives::Place,
         Some(Node::Assign(AssignOp::Plain, left, _)) if left == around.child => Gives::Place,

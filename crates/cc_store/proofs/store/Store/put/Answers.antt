@@ -17,14 +17,14 @@ returns-in-Err-clause-objects c =
     ∙ ap (missing c.args.p) c.self.view_is
     ))
 
-pub returns-clause-why : goal.returns-clause-why
-returns-clause-why c =
+pub returns-in-Ok-clause-why : goal.returns-in-Ok-clause-why
+returns-in-Ok-clause-why c =
     ap absence c.in-Ok.ensures.at
     ∙ sym (missing_is c.self.inside.headers c.self.inside.cells.items c.self.inside.next c.args.p c.self.invariant)
     ∙ ap (missing c.args.p) c.self.view_is
 
-pub returns-clause-objects : goal.returns-clause-objects
-returns-clause-objects c =
+pub returns-in-Ok-clause-objects : goal.returns-in-Ok-clause-objects
+returns-in-Ok-clause-objects c =
     let none : None ≡ missing c.args.p c.args.self.now =
     (ap absence c.in-Ok.ensures.at
     ∙ sym (missing_is c.self.inside.headers c.self.inside.cells.items c.self.inside.next c.args.p c.self.invariant)
