@@ -1,2 +1,4 @@
+pub mod Calls
 pub mod Compose
+pub mod Fills
 pub mod Reach

@@ -1,3 +1,4 @@
 pub mod Args
 pub mod Behind
 pub mod Names
+pub mod Right
