@@ -6,6 +6,7 @@ ghost use Rattle.cc_acts.specs.Parts as part;
 ghost use Rattle.cc_acts.specs.Steps as step;
 ghost use Rattle.cc_interp_step.specs.Progress.{behind, done, left, told};
 
+use crate::acts::push;
 use crate::machine::{Machine, Outcome};
 use crate::places::reach;
 use crate::values::{cell, cell_on, change, operate, undefined};
@@ -218,12 +219,7 @@ pub fn copy(
         Some(stop) => Ok(Outcome::Stopped(stop)),
         None => {
             m.operands.remove(count as usize + 1);
-            m.operands.push(Entry {
-                occ,
-                value: Value::Unwritten,
-            })?;
-            m.point = next;
-            Ok(Outcome::Next)
+            push(m, occ, next, Value::Unwritten)
         }
     }
 }

@@ -96,9 +96,7 @@ pub fn ask(
         Err(stop) => Ok(Outcome::Stopped(stop)),
         Ok(value) => {
             m.operands.remove(count as usize + 1);
-            m.operands.push(Entry { occ, value })?;
-            m.point = next;
-            Ok(Outcome::Next)
+            push(m, occ, next, value)
         }
     }
 }

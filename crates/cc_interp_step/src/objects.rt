@@ -115,8 +115,9 @@ fn fill_same(
     let mut at = k;
     let mut left = count;
     while left > 0 {
-        if let Some(stop) = fill_one(state, outbox, occ, act, cell_on(p, at), value)? {
-            return Ok(Some(stop));
+        match fill_one(state, outbox, occ, act, cell_on(p, at), value)? {
+            Some(stop) => return Ok(Some(stop)),
+            None => {}
         }
         at += 1;
         left -= 1;
@@ -165,8 +166,9 @@ pub fn fill_all(
                 if count > u32::MAX - k || p.base > u32::MAX - k - count {
                     return Err(Memory);
                 }
-                if let Some(stop) = fill_same(state, outbox, occ, act, p, k, count, value)? {
-                    return Ok(Some(stop));
+                match fill_same(state, outbox, occ, act, p, k, count, value)? {
+                    Some(stop) => return Ok(Some(stop)),
+                    None => {}
                 }
                 k += count;
             }
@@ -175,16 +177,9 @@ pub fn fill_all(
                     return Err(Memory);
                 }
                 let operand = item_at(operands, i);
-                if let Some(stop) = fill_operand(
-                    state,
-                    outbox,
-                    occ,
-                    act,
-                    cell_on(p, k),
-                    to,
-                    operand,
-                )? {
-                    return Ok(Some(stop));
+                match fill_operand(state, outbox, occ, act, cell_on(p, k), to, operand)? {
+                    Some(stop) => return Ok(Some(stop)),
+                    None => {}
                 }
                 k += 1;
                 i += 1;
@@ -282,8 +277,9 @@ pub fn end_objects(
     let mut left = count;
     while left > 0 {
         left -= 1;
-        if let Some(stop) = end_object(state, outbox, base + left as usize)? {
-            return Ok(Some(stop));
+        match end_object(state, outbox, base + left as usize)? {
+            Some(stop) => return Ok(Some(stop)),
+            None => {}
         }
     }
     Ok(None)
