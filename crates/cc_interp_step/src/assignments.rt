@@ -1,5 +1,5 @@
 // The acts on assignments.
-ghost use Rattle.std.specs.Prelude.{◌≡◌, ◌<◌, ◌+◌, ◌^◌, IfOk, length, pos, slice_get};
+ghost use Rattle.std.specs.Prelude.{◌≡◌, ◌<◌, ◌+◌, ◌^◌, IfOk, Some, length, pos, slice_get};
 ghost use Rattle.cc_store.specs.Stacks.{first, rest};
 ghost use Rattle.cc_store.specs.declared.value.Value.{Value};
 ghost use Rattle.cc_acts.specs.Parts as part;
@@ -191,19 +191,17 @@ fn copy_cells(
     }
 }
 
-/// A struct assignment.
-pub fn copy(
+// Writes the values of a struct's cells through the place under them.
+fn copy_through(
     m: &mut Machine,
     lvalue: u32,
     occ: u32,
     count: u32,
     next: u32,
+    place: Entry,
 ) -> Result<Outcome, Memory>
-    ensures { IfOk result (λ r. left r m.new ≡ told m.old (step.copy_of lvalue occ count next m.old.frame m.old.operands m.old.callers (slice_get m.old.operands count) m.old.state)) }
+    ensures { IfOk result (λ r. left r m.new ≡ told m.old (step.copy_of lvalue occ count next m.old.frame m.old.operands m.old.callers (Some place) m.old.state)) }
 {
-    let Some(place) = m.operands.under(count as usize) else {
-        return Ok(Outcome::Stopped(Stop::Lost));
-    };
     let act = m.frame.act;
     let all = m.operands.as_slice();
     let values = &all[all.len().saturating_sub(count as usize)..];
@@ -221,5 +219,21 @@ pub fn copy(
             m.operands.remove(count as usize + 1);
             push(m, occ, next, Value::Unwritten)
         }
+    }
+}
+
+/// A struct assignment.
+pub fn copy(
+    m: &mut Machine,
+    lvalue: u32,
+    occ: u32,
+    count: u32,
+    next: u32,
+) -> Result<Outcome, Memory>
+    ensures { IfOk result (λ r. left r m.new ≡ told m.old (step.copy_of lvalue occ count next m.old.frame m.old.operands m.old.callers (slice_get m.old.operands count) m.old.state)) }
+{
+    match m.operands.under(count as usize) {
+        None => Ok(Outcome::Stopped(Stop::Lost)),
+        Some(place) => copy_through(m, lvalue, occ, count, next, place),
     }
 }

@@ -1,8 +1,10 @@
 // The acts on objects.
-ghost use Rattle.std.specs.Prelude.{◌≡◌, IfOk, ◌+◌, ◌<◌, ◌^◌, slice_get, take, drop};
+ghost use Rattle.std.specs.Prelude.{◌≡◌, IfOk, ◌+◌, ◌<◌, ◌^◌, Some, slice_get, take, drop};
 ghost use Rattle.cc_acts.specs.Parts as part;
 ghost use Rattle.cc_acts.specs.Steps as step;
-ghost use Rattle.cc_interp_step.specs.Progress.{behind, done, left, told};
+ghost use Rattle.cc_store.specs.declared.value.Value.{Value};
+ghost use Rattle.cc_interp_step.specs.Fills.{filled_by};
+ghost use Rattle.cc_interp_step.specs.Progress.{behind, done, given, left, told};
 
 use crate::machine::{Machine, Outcome};
 use crate::values::{cell, cell_on, change, undefined};
@@ -146,6 +148,55 @@ fn fill_operand(
     }
 }
 
+// The next cell of an object, and the next operand.
+#[derive(Clone, Copy)]
+pub struct Cursor {
+    pub k: u32,
+    pub i: usize,
+}
+
+// Does what a filler says.
+fn fill_next(
+    state: &mut State,
+    outbox: &mut Stack<Event>,
+    occ: u32,
+    act: u64,
+    p: Pointer,
+    operands: &[Entry],
+    at: Cursor,
+    filler: Filler,
+) -> Result<Result<Cursor, Stop>, Memory>
+    ensures { IfOk result (λ r. behind outbox.new (given r state.new) ≡ behind outbox.old (filled_by occ act p operands.now at filler state.old)) }
+{
+    match filler {
+        Filler::Cells { count, value } => {
+            if count > u32::MAX - at.k || p.base > u32::MAX - at.k - count {
+                return Err(Memory);
+            }
+            match fill_same(state, outbox, occ, act, p, at.k, count, value)? {
+                Some(stop) => Ok(Err(stop)),
+                None => Ok(Ok(Cursor {
+                    k: at.k + count,
+                    i: at.i,
+                })),
+            }
+        }
+        Filler::Operand { to } => {
+            if at.k == u32::MAX || p.base > u32::MAX - at.k || at.i == usize::MAX {
+                return Err(Memory);
+            }
+            let operand = item_at(operands, at.i);
+            match fill_operand(state, outbox, occ, act, cell_on(p, at.k), to, operand)? {
+                Some(stop) => Ok(Err(stop)),
+                None => Ok(Ok(Cursor {
+                    k: at.k + 1,
+                    i: at.i + 1,
+                })),
+            }
+        }
+    }
+}
+
 /// Gives first values to the cells of the object that the pointer points to, by the fillers, which take these operands.
 pub fn fill_all(
     state: &mut State,
@@ -158,57 +209,30 @@ pub fn fill_all(
 ) -> Result<Option<Stop>, Memory>
     ensures { IfOk result (λ r. behind outbox.new (done r state.new) ≡ behind outbox.old (part.fill_all occ act p operands.now 0 0 fillers.now state.old)) }
 {
-    let mut k: u32 = 0;
-    let mut i: usize = 0;
+    let mut at = Cursor { k: 0, i: 0 };
     for filler in fillers {
-        match *filler {
-            Filler::Cells { count, value } => {
-                if count > u32::MAX - k || p.base > u32::MAX - k - count {
-                    return Err(Memory);
-                }
-                match fill_same(state, outbox, occ, act, p, k, count, value)? {
-                    Some(stop) => return Ok(Some(stop)),
-                    None => {}
-                }
-                k += count;
-            }
-            Filler::Operand { to } => {
-                if k == u32::MAX || p.base > u32::MAX - k || i == usize::MAX {
-                    return Err(Memory);
-                }
-                let operand = item_at(operands, i);
-                match fill_operand(state, outbox, occ, act, cell_on(p, k), to, operand)? {
-                    Some(stop) => return Ok(Some(stop)),
-                    None => {}
-                }
-                k += 1;
-                i += 1;
-            }
+        match fill_next(state, outbox, occ, act, p, operands, at, *filler)? {
+            Err(stop) => return Ok(Some(stop)),
+            Ok(next) => at = next,
         }
     }
     Ok(None)
 }
 
-/// The cells of a name's object get their first values.
-pub fn fill(
+// The cells of the object that the pointer points to get their first values.
+fn fill_object(
     m: &mut Machine,
-    acts: &Acts,
     declarator: u32,
-    name: u32,
-    from: u32,
-    fillers: u32,
+    p: Pointer,
+    fillers: &[Filler],
     count: u32,
     next: u32,
 ) -> Result<Outcome, Memory>
-    ensures { IfOk result (λ r. left r m.new ≡ told m.old (step.filled acts.now declarator name from fillers count next m.old.frame m.old.operands m.old.callers m.old.state)) }
+    ensures { IfOk result (λ r. left r m.new ≡ told m.old (step.filled_of fillers.now declarator count next m.old.frame m.old.operands m.old.callers (Some (Value.Points p)) m.old.state)) }
 {
-    let Some(Value::Points(p)) = m.state.names.get(m.frame.base as usize + name as usize) else {
-        return Ok(Outcome::Stopped(Stop::Lost));
-    };
     let act = m.frame.act;
     let all = m.operands.as_slice();
     let operands = &all[all.len().saturating_sub(count as usize)..];
-    let fillers = acts.fillers.part(from as usize, fillers as usize);
     match fill_all(
         &mut m.state,
         &mut m.outbox,
@@ -224,6 +248,26 @@ pub fn fill(
             m.point = next;
             Ok(Outcome::Next)
         }
+    }
+}
+
+/// The cells of a name's object get their first values.
+pub fn fill(
+    m: &mut Machine,
+    acts: &Acts,
+    declarator: u32,
+    name: u32,
+    from: u32,
+    fillers: u32,
+    count: u32,
+    next: u32,
+) -> Result<Outcome, Memory>
+    ensures { IfOk result (λ r. left r m.new ≡ told m.old (step.filled acts.now declarator name from fillers count next m.old.frame m.old.operands m.old.callers m.old.state)) }
+{
+    let fillers = acts.fillers.part(from as usize, fillers as usize);
+    match m.state.names.get(m.frame.base as usize + name as usize) {
+        Some(Value::Points(p)) => fill_object(m, declarator, p, fillers, count, next),
+        _ => Ok(Outcome::Stopped(Stop::Lost)),
     }
 }
 

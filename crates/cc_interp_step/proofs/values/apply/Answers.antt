@@ -11,7 +11,7 @@ use Rattle.cc_interp_step.proofs.values.apply.Goals as goal
 pub binary-requires-clause-right : goal.binary-requires-clause-right
 binary-requires-clause-right c =
     let r_fits : FitsSigned w128 c.convert-b.result = record { sfits = c.convert-b.type_inv } in
-    simp to_z-of_z (right_ok c.args.op c.args.left c.args.right c.promote-kind.result c.convert-b.result c.promote-kind.ensures.value c.convert-b.ensures.within)
+    simp to_z-of_z (right_ok c.args.op c.args.left c.args.right c.promote-kind.result c.convert-b.result c.promote-kind.ensures.value (rw c.right_kind.ensures at c.convert-b.ensures.within))
 
 pub returns-in-Ok : goal.returns-in-Ok
 unfolding applied
