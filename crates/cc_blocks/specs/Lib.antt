@@ -1,0 +1,4 @@
+pub mod Bits
+pub mod Cells
+pub mod Pairs
+pub mod Sweeping

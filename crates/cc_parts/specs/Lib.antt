@@ -1,0 +1,3 @@
+pub mod TypeParts
+pub mod PartTables
+pub mod Objects
