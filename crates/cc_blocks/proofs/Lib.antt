@@ -5,3 +5,4 @@ pub mod Edits
 pub mod Tables
 pub mod Counts
 pub mod Passing
+pub mod Places

@@ -1,5 +1,5 @@
 -- A row of cells as the set of its targets.
-use Rattle.std.specs.Prelude.{◌≡◌, ℕ, zero, suc, ◌+◌, ◌/◌, ◌%◌, ◌≤◌, max, if◌then◌else◌, ◌==◌, nat_lt, List, [], ◌∷◌}
+use Rattle.std.specs.Prelude.{◌≡◌, ℕ, zero, suc, ◌+◌, ◌/◌, ◌%◌, ◌≤◌, max, if◌then◌else◌, ◌==◌, nat_lt, nat_eq, Bool, List, [], ◌∷◌}
 use Rattle.std.specs.Coded.{×_prop, le_prop}
 use Rattle.cc_blocks.specs.declared.block.Block.{Block}
 use Rattle.cc_blocks.specs.Bits.{bit, size}
@@ -13,6 +13,15 @@ block_bit number block target = if target / 512 == number then bit block (target
 unfoldable pub row_bit : List Cell → ℕ → ℕ
 row_bit [] target = 0
 row_bit (cell ∷ cells) target = max (block_bit cell.number cell.block target) (row_bit cells target)
+
+-- whether a cell of the row has the target
+abbrev pub has_bit : List Cell → ℕ → Bool
+has_bit cells target = nat_eq (row_bit cells target) 1
+
+-- how many targets below a bound the cells have
+unfoldable pub targets_below : List Cell → ℕ → ℕ
+targets_below cells zero = 0
+targets_below cells (suc n) = targets_below cells n + row_bit cells n
 
 -- how many targets the cells have
 unfoldable pub row_size : List Cell → ℕ

@@ -7,6 +7,7 @@
 
 mod block;
 mod cell;
+mod counting;
 pub mod laws;
 mod row;
 mod sets;

@@ -1,0 +1,6 @@
+use Rattle.std.proofs.Common.{◌≡◌, drop}
+use Rattle.cc_points_solve.specs.Watching as spec
+use Rattle.cc_points_solve.proofs.watching.add_pairs.Given as goal
+
+abbrev pub invariant-loop-watch : goal.invariant-loop-watch
+invariant-loop-watch l = spec.pairs_by l.view (drop l.watch-index l.row) l.target l.out.items ≡ spec.pairs_by l.view l.row l.target l.initial.out.items
