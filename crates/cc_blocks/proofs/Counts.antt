@@ -10,7 +10,7 @@ use Rattle.cc_blocks.specs.Pairs.{pair_bit, pair_count, CountGrows}
 use Rattle.cc_blocks.proofs.Ranks
 
 -- the sum of a function below a bound
-total : (ℕ → ℕ) → ℕ → ℕ
+unfoldable pub total : (ℕ → ℕ) → ℕ → ℕ
 total f zero = 0
 total f (suc n) = total f n + f n
 
@@ -24,7 +24,7 @@ unfolding total
 total-add f g s zero h = refl
 total-add f g s (suc n) h = omega (arith, total-add f g s n h, h n)
 
-total-none : (f : ℕ → ℕ) (n : ℕ) → ((t : ℕ) → t < n → f t ≡ 0) → total f n ≡ 0
+pub total-none : (f : ℕ → ℕ) (n : ℕ) → ((t : ℕ) → t < n → f t ≡ 0) → total f n ≡ 0
 unfolding total
 total-none f zero h = refl
 total-none f (suc n) h = omega (arith, total-none f n (λ t lt. h t (omega arith)), h n (omega arith))
@@ -49,7 +49,7 @@ total-above n b (suc m) =
     let at : 512 * n + 512 + suc m ≡ suc (512 * n + 512 + m) = omega arith in
     omega (arith, ap (total (block_bit n b)) at, total-above n b m, Ranks.block_bit-other n b (512 * n + 512 + m) (λ e. omega arith))
 
-total-row : (least : ℕ) (cells : List Cell) (bound : ℕ) → AreAscending least cells → bound ≡ 4294967296 → total (row_bit cells) bound ≡ row_size cells
+pub total-row : (least : ℕ) (cells : List Cell) (bound : ℕ) → AreAscending least cells → bound ≡ 4294967296 → total (row_bit cells) bound ≡ row_size cells
 unfolding row_bit row_size
 total-row least [] bound up e = total-none (row_bit []) bound (λ t lt. refl)
 total-row least (c ∷ cells) bound up e =

@@ -1,7 +1,7 @@
 -- Rows and tables counted, and the targets of a row by their places.
 use Rattle.std.proofs.Common.{◌≡◌, ℕ, zero, suc, ◌+◌, ◌-◌, ◌<◌, ◌≤◌, List, [], ◌∷◌, ◌++◌, take, refl, sym, ap, ◌∙◌, arith, inl, inr, Bool, true, false, nat_eq, ◌↔◌, IsTrue}
 use Rattle.std.specs.Prelude.{slice_get, Option, Some, None, IfSome, IfNone}
-use Rattle.std.proofs.lemmas.Bool.{cases_lt}
+use Rattle.std.proofs.lemmas.Bool.{cases_lt, false≢true}
 use Rattle.std.proofs.lemmas.Bool.Decides.{eqb_tells}
 use Rattle.cc_blocks.specs.declared.cell.Cell.{Cell}
 use Rattle.cc_blocks.specs.declared.row.Row.{Row}
@@ -27,6 +27,11 @@ pair_count-next [] (suc k) = refl
 pair_count-next (x ∷ rows) zero = omega arith
 pair_count-next (x ∷ rows) (suc k) = omega (arith, pair_count-next rows k)
 
+pub pair_count-step : (rows : List Row) (k : ℕ) → pair_count (take (k + 1) rows) ≡ pair_count (take k rows) + count_in (slice_get rows k)
+pair_count-step rows k =
+    let e : k + 1 ≡ suc k = omega arith in
+    ap (λ n. pair_count (take n rows)) e ∙ pair_count-next rows k
+
 -- no targets from one number up to another, so as many are below both
 pub below-gap : (cells : List Cell) (n m : ℕ) → ((t : ℕ) → n ≤ t → t < n + m → row_bit cells t ≡ 0) → targets_below cells (n + m) ≡ targets_below cells n
 unfolding targets_below
@@ -44,7 +49,9 @@ below-next cells t u is lt none =
 
 pub below-first : (cells : List Cell) (t : ℕ) → ((v : ℕ) → 0 ≤ v → v < t → row_bit cells v ≡ 0) → targets_below cells t ≡ 0
 unfolding targets_below
-below-first cells t none = below-gap cells 0 t (λ v le lt. none v le (omega arith))
+below-first cells t none =
+    let at : t ≡ 0 + t = omega arith in
+    ap (targets_below cells) at ∙ below-gap cells 0 t (λ v le lt. none v le (omega arith))
 
 pub below-total : (cells : List Cell) (n : ℕ) → targets_below cells n ≡ total (row_bit cells) n
 unfolding targets_below total
@@ -85,12 +92,12 @@ next_on_way cells place left t None up way lt some none = (let w = way.1 in omeg
 -- a test that tells whether a number is 1
 pub told : (b : Bool) (n : ℕ) → (IsTrue b ↔ (n ≡ 1)) → b ≡ nat_eq n 1
 told true n h = elim (eqb_tells n 1) [
-    | inl yes ↦ sym yes.0
-    | inr no ↦ absurd (no.1 (h.0 tt))
+    | inl is ↦ sym is.0
+    | inr other ↦ absurd (other.1 (h.0 refl))
   ]
 told false n h = elim (eqb_tells n 1) [
-    | inl yes ↦ absurd (h.1 yes.1)
-    | inr no ↦ sym no.0
+    | inl is ↦ absurd (false≢true (h.1 is.1))
+    | inr other ↦ sym other.0
   ]
 
 -- the test of a pair, and the pair
@@ -98,8 +105,8 @@ pub pair_told : (rows : List Row) (h t : ℕ) → has_pair rows h t ≡ true →
 unfolding pair_bit
 pair_told [] h t is = absurd (let e = is in cc)
 pair_told (x ∷ rows) zero t is = elim (eqb_tells (row_bit x.cells.items t) 1) [
-    | inl yes ↦ yes.1
-    | inr no ↦ absurd (let e = sym no.0 ∙ is in cc)
+    | inl one ↦ one.1
+    | inr other ↦ absurd (let e = sym other.0 ∙ is in cc)
   ]
 pair_told (x ∷ rows) (suc h) t is = pair_told rows h t is
 
@@ -107,7 +114,7 @@ pub told_pair : (rows : List Row) (h t : ℕ) → pair_bit rows h t ≡ 1 → ha
 unfolding pair_bit
 told_pair [] h t is = absurd (omega arith)
 told_pair (x ∷ rows) zero t is = elim (eqb_tells (row_bit x.cells.items t) 1) [
-    | inl yes ↦ yes.0
-    | inr no ↦ absurd (no.1 is)
+    | inl one ↦ one.0
+    | inr other ↦ absurd (other.1 is)
   ]
 told_pair (x ∷ rows) (suc h) t is = told_pair rows h t is

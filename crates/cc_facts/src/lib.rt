@@ -5,7 +5,6 @@
 //! program are made by `cc_points`; the calls that add are for tables that are made by hand. docs/facts.md has the chapter.
 #![tactic(auto)]
 
-mod add;
 mod facts;
 mod order;
 mod target;

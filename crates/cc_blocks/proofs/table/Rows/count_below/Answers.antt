@@ -10,6 +10,6 @@ loop-holder-init c = record { counts = refl; bound = omega arith }
 
 pub loop-holder-preserved : goal.loop-holder-preserved
 loop-holder-preserved c = record {
-  counts = omega (arith, Places.pair_count-next c.args.self.now.rows.items c.loop-holder.holder, c.count_at.ensures.count, c.loop-holder.invariant.counts);
-  bound = omega (arith, c.count_at.ensures.bound, c.loop-holder.invariant.bound);
+  counts = omega (arith, Places.pair_count-step c.args.self.now.rows.items c.loop-holder.holder, c.count_at-count.ensures.count, c.loop-holder.invariant.counts);
+  bound = omega (arith, c.count_at-count.ensures.bound, c.loop-holder.invariant.bound);
 }
