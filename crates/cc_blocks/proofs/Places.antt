@@ -118,3 +118,6 @@ told_pair (x ∷ rows) zero t is = elim (eqb_tells (row_bit x.cells.items t) 1) 
     | inr other ↦ absurd (other.1 is)
   ]
 told_pair (x ∷ rows) (suc h) t is = told_pair rows h t is
+
+abbrev pub some_target : ℕ → Option ℕ
+some_target t = Some t

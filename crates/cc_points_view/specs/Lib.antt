@@ -4,3 +4,4 @@ pub mod Functions
 pub mod Paths
 pub mod Initialisers
 pub mod Views
+pub mod Within

@@ -7,6 +7,7 @@
 
 mod functions;
 mod initialisers;
+pub mod laws;
 mod make;
 mod paths;
 mod seeing;
