@@ -56,12 +56,16 @@ total-row least (c ∷ cells) bound up e =
     let n = c.number in
     let small = Ranks.ascending-length (n + 1) cells up.1 in
     let at : bound ≡ 512 * n + 512 + (bound - 512 * n - 512) = omega arith in
-    omega (arith,
+    omega (
+      arith,
       total-add (block_bit n c.block) (row_bit cells) (row_bit (c ∷ cells)) bound (λ t. elim (cases_eq (t / 512) n) [
         | inl same ↦ omega (arith, Ranks.row_bit-low (n + 1) cells t up.1 (omega arith))
         | inr other ↦ omega (arith, Ranks.block_bit-other n c.block t other)
       ]),
-      ap (total (block_bit n c.block)) at, total-above n c.block (bound - 512 * n - 512), total-row (n + 1) cells bound up.1 e)
+      ap (total (block_bit n c.block)) at,
+      total-above n c.block (bound - 512 * n - 512),
+      total-row (n + 1) cells bound up.1 e,
+    )
 
 row_size-mono : (a b : Row) → ((t : ℕ) → row_bit a.cells.items t ≤ row_bit b.cells.items t) → row_size a.cells.items ≤ row_size b.cells.items
 row_size-mono a b h = go 4294967296 refl

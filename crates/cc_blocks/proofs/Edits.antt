@@ -31,9 +31,9 @@ module _ (cells : List Cell) (n r : ℕ) (c : Cell) (b joined more : Block) (up 
 
   join_block : (t : ℕ) → block_bit n joined t ≡ max (block_bit c.number c.block t) (block_bit n b t)
   join_block t = elim (cases_eq (t / 512) n) [
-      | inl same ↦ omega (arith, Ranks.block_bit-at n joined t same, Ranks.block_bit-at c.number c.block t (same ∙ sym is), Ranks.block_bit-at n b t same, bits (t % 512))
-      | inr other ↦ omega (arith, Ranks.block_bit-other n joined t other, Ranks.block_bit-other c.number c.block t (λ x. other (x ∙ is)), Ranks.block_bit-other n b t other)
-    ]
+    | inl same ↦ omega (arith, Ranks.block_bit-at n joined t same, Ranks.block_bit-at c.number c.block t (same ∙ sym is), Ranks.block_bit-at n b t same, bits (t % 512))
+    | inr other ↦ omega (arith, Ranks.block_bit-other n joined t other, Ranks.block_bit-other c.number c.block t (λ x. other (x ∙ is)), Ranks.block_bit-other n b t other)
+  ]
 
   pub joined_bits : (t : ℕ) → row_bit (slice_set cells r (record { number = n; block = joined })) t ≡ max (row_bit cells t) (block_bit n b t)
   joined_bits t = Ranks.row_bit-set cells r t (block_bit n b t) c (record { number = n; block = joined }) at (join_block t)
@@ -55,9 +55,9 @@ module _ (cells : List Cell) (n r : ℕ) (c : Cell) (b joined more : Block) (up 
 
   pub joined_none : size more ≡ 0 → (t : ℕ) → block_bit n b t ≤ row_bit cells t
   joined_none h t = elim (cases_eq (t / 512) n) [
-      | inl same ↦ omega (arith, Ranks.block_bit-at n b t same, Ranks.row_bit-found 0 cells n t c up at' is same, size_none more h (t % 512), h_more (t % 512))
-      | inr other ↦ omega (arith, Ranks.block_bit-other n b t other)
-    ]
+    | inl same ↦ omega (arith, Ranks.block_bit-at n b t same, Ranks.row_bit-found 0 cells n t c up at' is same, size_none more h (t % 512), h_more (t % 512))
+    | inr other ↦ omega (arith, Ranks.block_bit-other n b t other)
+  ]
 
   pub joined_ascending : AreAscending 0 (slice_set cells r (record { number = n; block = joined }))
   joined_ascending = Ranks.ascending-set 0 cells r c (record { number = n; block = joined }) up at (sym is)
@@ -86,9 +86,9 @@ module _ (cells : List Cell) (n r : ℕ) (b : Block) (up : AreAscending 0 cells)
 
   pub put_none : size b ≡ 0 → (t : ℕ) → block_bit n b t ≤ row_bit cells t
   put_none h t = elim (cases_eq (t / 512) n) [
-      | inl same ↦ omega (arith, Ranks.block_bit-at n b t same, size_none b h (t % 512))
-      | inr other ↦ omega (arith, Ranks.block_bit-other n b t other)
-    ]
+    | inl same ↦ omega (arith, Ranks.block_bit-at n b t same, size_none b h (t % 512))
+    | inr other ↦ omega (arith, Ranks.block_bit-other n b t other)
+  ]
 
   put_ascending : AreAscending 0 (insert cells r (record { number = n; block = b }))
   put_ascending = subst (λ k. AreAscending 0 (insert cells k (record { number = n; block = b }))) (sym e) (Ranks.ascending-insert 0 cells (record { number = n; block = b }) up (omega arith) small absent')
@@ -122,16 +122,16 @@ weaker a b (c ∷ cells) h up = (omega (arith, up.0), up.1)
 module _ (start low : ℕ) (c : Cell) (rest : List Cell) (up : AreAscending (start / 512) (c ∷ rest)) (same : c.number ≡ start / 512 → low ≡ start % 512) (other : c.number ≢ start / 512 → low ≡ 0) where
   here : (t i : ℕ) → start ≤ t → t / 512 ≡ c.number → low ≤ t % 512
   here t i le e = elim (cases_eq c.number (start / 512)) [
-      | inl eq ↦ let l = same eq in omega arith
-      | inr ne ↦ let l = other ne in omega arith
-    ]
+    | inl eq ↦ let l = same eq in omega arith
+    | inr ne ↦ let l = other ne in omega arith
+  ]
 
   pub skip : ((k : ℕ) → low ≤ k → bit c.block k ≡ 0) → (t : ℕ) → start ≤ t → row_bit (c ∷ rest) t ≡ row_bit rest t
   unfolding row_bit
   skip none t le = elim (cases_eq (t / 512) c.number) [
-      | inl e ↦ omega (arith, Ranks.block_bit-at c.number c.block t e, none (t % 512) (here t 0 le e))
-      | inr ne ↦ omega (arith, Ranks.block_bit-other c.number c.block t ne)
-    ]
+    | inl e ↦ omega (arith, Ranks.block_bit-at c.number c.block t e, none (t % 512) (here t 0 le e))
+    | inr ne ↦ omega (arith, Ranks.block_bit-other c.number c.block t ne)
+  ]
 
   pub rest_ascending : AreAscending (start / 512) rest
   rest_ascending = weaker (start / 512) (c.number + 1) rest (let l = up.0 in omega arith) up.1
@@ -143,9 +143,9 @@ module _ (start low : ℕ) (c : Cell) (rest : List Cell) (up : AreAscending (sta
     where
       from : start ≤ c.number * 512 + i
       from = elim (cases_eq c.number (start / 512)) [
-          | inl eq ↦ let l = same eq in omega arith
-          | inr ne ↦ let l = up.0 in omega arith
-        ]
+        | inl eq ↦ let l = same eq in omega arith
+        | inr ne ↦ let l = up.0 in omega arith
+      ]
 
       at : row_bit (c ∷ rest) (c.number * 512 + i) ≡ 1
       at =
@@ -156,23 +156,23 @@ module _ (start low : ℕ) (c : Cell) (rest : List Cell) (up : AreAscending (sta
 
       before : (t : ℕ) → start ≤ t → t < c.number * 512 + i → row_bit (c ∷ rest) t ≡ 0
       before t le' lt' = elim (cases_eq (t / 512) c.number) [
-          | inl e ↦ omega (arith, Ranks.block_bit-at c.number c.block t e, none (t % 512) (here t 0 le' e) (omega arith), Ranks.row_bit-low (c.number + 1) rest t up.1 (omega arith))
-          | inr ne ↦ omega (arith, Ranks.block_bit-other c.number c.block t ne, Ranks.row_bit-low (c.number + 1) rest t up.1 (omega arith))
-        ]
+        | inl e ↦ omega (arith, Ranks.block_bit-at c.number c.block t e, none (t % 512) (here t 0 le' e) (omega arith), Ranks.row_bit-low (c.number + 1) rest t up.1 (omega arith))
+        | inr ne ↦ omega (arith, Ranks.block_bit-other c.number c.block t ne, Ranks.row_bit-low (c.number + 1) rest t up.1 (omega arith))
+      ]
 
 -- what of a block a row lacks
 module _ (cells : List Cell) (n : ℕ) (b there more : Block) (h_there : (t : ℕ) → t / 512 ≡ n → bit there (t % 512) ≡ row_bit cells t) (h_more : (i : ℕ) → bit more i ≡ bit b i - bit there i) where
   pub lacking_bits : (t : ℕ) → block_bit n more t ≡ block_bit n b t - row_bit cells t
   lacking_bits t = elim (cases_eq (t / 512) n) [
-      | inl same ↦ omega (arith, Ranks.block_bit-at n more t same, Ranks.block_bit-at n b t same, h_there t same, h_more (t % 512))
-      | inr other ↦ omega (arith, Ranks.block_bit-other n more t other, Ranks.block_bit-other n b t other)
-    ]
+    | inl same ↦ omega (arith, Ranks.block_bit-at n more t same, Ranks.block_bit-at n b t same, h_there t same, h_more (t % 512))
+    | inr other ↦ omega (arith, Ranks.block_bit-other n more t other, Ranks.block_bit-other n b t other)
+  ]
 
   pub lacking_none : ((i : ℕ) → bit more i ≡ 0) → (t : ℕ) → block_bit n b t ≤ row_bit cells t
   lacking_none none t = elim (cases_eq (t / 512) n) [
-      | inl same ↦ omega (arith, lacking_bits t, Ranks.block_bit-at n more t same, none (t % 512))
-      | inr other ↦ omega (arith, Ranks.block_bit-other n b t other)
-    ]
+    | inl same ↦ omega (arith, lacking_bits t, Ranks.block_bit-at n more t same, none (t % 512))
+    | inr other ↦ omega (arith, Ranks.block_bit-other n b t other)
+  ]
 
 pub row_bit-take : (cells : List Cell) (k t : ℕ) → row_bit (take k cells) t ≤ row_bit cells t
 unfolding row_bit

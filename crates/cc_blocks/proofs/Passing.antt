@@ -139,19 +139,19 @@ sweeps_on next clears starts k point row reach reach' work work' source stays at
   same_length = p.same_length ∙ s.same_length;
   sound = λ q i is. ⊎_elim (s.sound q i)
       (λ n. (let e = is_source i in let one = n.1 in
-        let from = s.sound point i (omega (arith, small i)) in
-        (from.0, from.1, On from.2 (omega (arith, small i)) (record { row = row; at = at; has = n.0 }))))
+      let from = s.sound point i (omega (arith, small i)) in
+      (from.0, from.1, On from.2 (omega (arith, small i)) (record { row = row; at = at; has = n.0 }))))
       (p.only q i is);
   begun = λ i st q lt is edge. p.kept q i (s.begun i st q lt is edge);
   passed = λ a b i edge is clear. ⊎_elim
       (λ old. ⊎_elim
-        (λ x. inl (p.kept b i x))
-        (λ c. ⊎_elim
-          (λ rest. inr (p.work_kept a rest))
-          (λ same. inl (p.got b i (has_row next point b row at (subst (λ x. HasEdge next x b) (sym same) edge))
-            (let o = ap (λ x. bit_at_point reach x i) same ∙ old in let z = ap (λ x. bit_at_point clears x i) same ∙ clear in omega (arith, is_source i))))
-          (Contains-push_cases work point a c))
-        (s.passed a b i edge old clear))
+      (λ x. inl (p.kept b i x))
+      (λ c. ⊎_elim
+      (λ rest. inr (p.work_kept a rest))
+      (λ same. inl (p.got b i (has_row next point b row at (subst (λ x. HasEdge next x b) (sym same) edge))
+      (let o = ap (λ x. bit_at_point reach x i) same ∙ old in let z = ap (λ x. bit_at_point clears x i) same ∙ clear in omega (arith, is_source i))))
+      (Contains-push_cases work point a c))
+      (s.passed a b i edge old clear))
       (λ n. inr n.2)
       (p.only a i is);
   work_within = λ q c. ⊎_elim (λ h. s.work_within q (Contains-append_left work (point ∷ []) q h)) (λ h. stays point q (record { row = row; at = at; has = h })) (p.work_only q c);

@@ -92,31 +92,31 @@ next_on_way cells place left t None up way lt some none = (let w = way.1 in omeg
 -- a test that tells whether a number is 1
 pub told : (b : Bool) (n : ℕ) → (IsTrue b ↔ (n ≡ 1)) → b ≡ nat_eq n 1
 told true n h = elim (eqb_tells n 1) [
-    | inl is ↦ sym is.0
-    | inr other ↦ absurd (other.1 (h.0 refl))
-  ]
+  | inl is ↦ sym is.0
+  | inr other ↦ absurd (other.1 (h.0 refl))
+]
 told false n h = elim (eqb_tells n 1) [
-    | inl is ↦ absurd (false≢true (h.1 is.1))
-    | inr other ↦ sym other.0
-  ]
+  | inl is ↦ absurd (false≢true (h.1 is.1))
+  | inr other ↦ sym other.0
+]
 
 -- the test of a pair, and the pair
 pub pair_told : (rows : List Row) (h t : ℕ) → has_pair rows h t ≡ true → pair_bit rows h t ≡ 1
 unfolding pair_bit
 pair_told [] h t is = absurd (let e = is in cc)
 pair_told (x ∷ rows) zero t is = elim (eqb_tells (row_bit x.cells.items t) 1) [
-    | inl one ↦ one.1
-    | inr other ↦ absurd (let e = sym other.0 ∙ is in cc)
-  ]
+  | inl one ↦ one.1
+  | inr other ↦ absurd (let e = sym other.0 ∙ is in cc)
+]
 pair_told (x ∷ rows) (suc h) t is = pair_told rows h t is
 
 pub told_pair : (rows : List Row) (h t : ℕ) → pair_bit rows h t ≡ 1 → has_pair rows h t ≡ true
 unfolding pair_bit
 told_pair [] h t is = absurd (omega arith)
 told_pair (x ∷ rows) zero t is = elim (eqb_tells (row_bit x.cells.items t) 1) [
-    | inl one ↦ one.0
-    | inr other ↦ absurd (other.1 is)
-  ]
+  | inl one ↦ one.0
+  | inr other ↦ absurd (other.1 is)
+]
 told_pair (x ∷ rows) (suc h) t is = told_pair rows h t is
 
 abbrev pub some_target : ℕ → Option ℕ

@@ -18,9 +18,9 @@ rank_not_less c cells n h = ap (λ b. cond b (suc (rank_of cells n)) 0) (le-ltb 
 pub rank-le : (cells : List Cell) (n : ℕ) → rank_of cells n ≤ length cells
 rank-le [] n = omega arith
 rank-le (c ∷ cells) n = elim (cases_lt c.number n) [
-    | inl lt ↦ omega (arith, rank_less c cells n lt, rank-le cells n)
-    | inr ge ↦ omega (arith, rank_not_less c cells n ge)
-  ]
+  | inl lt ↦ omega (arith, rank_less c cells n lt, rank-le cells n)
+  | inr ge ↦ omega (arith, rank_not_less c cells n ge)
+]
 
 -- a cell whose number is below n comes before the rank of n
 pub rank-above : (least : ℕ) (cells : List Cell) (n k : ℕ) (c : Cell) → AreAscending least cells → slice_get cells k ≡ Some c → c.number < n → k < rank_of cells n
@@ -40,9 +40,9 @@ pub rank-below : (cells : List Cell) (n k : ℕ) (c : Cell) → slice_get cells 
 rank-below [] n k c at le = absurd (let e = at in cc)
 rank-below (d ∷ cells) n zero c at le = let e : d ≡ c = cc in omega (arith, rank_not_less d cells n (rw e le))
 rank-below (d ∷ cells) n (suc k) c at le = elim (cases_lt d.number n) [
-    | inl lt ↦ omega (arith, rank_less d cells n lt, rank-below cells n k c at le)
-    | inr ge ↦ omega (arith, rank_not_less d cells n ge)
-  ]
+  | inl lt ↦ omega (arith, rank_less d cells n lt, rank-below cells n k c at le)
+  | inr ge ↦ omega (arith, rank_not_less d cells n ge)
+]
 
 pub block_bit-at : (n : ℕ) (b : Block) (t : ℕ) → t / 512 ≡ n → block_bit n b t ≡ bit b (t % 512)
 unfolding block_bit
@@ -54,9 +54,9 @@ block_bit-other n b t ne = ap (λ x. cond x (bit b (t % 512)) 0) (ne_eqb (t / 51
 
 pub block_bit-lt : (n : ℕ) (b : Block) (t : ℕ) → block_bit n b t < 2
 block_bit-lt n b t = elim (cases_eq (t / 512) n) [
-    | inl e ↦ omega (arith, block_bit-at n b t e, bit-lt b (t % 512))
-    | inr ne ↦ omega (arith, block_bit-other n b t ne)
-  ]
+  | inl e ↦ omega (arith, block_bit-at n b t e, bit-lt b (t % 512))
+  | inr ne ↦ omega (arith, block_bit-other n b t ne)
+]
 
 pub row_bit-lt : (cells : List Cell) (t : ℕ) → row_bit cells t < 2
 unfolding row_bit
@@ -74,28 +74,28 @@ pub row_bit-found : (least : ℕ) (cells : List Cell) (n t : ℕ) (c : Cell) →
 unfolding row_bit
 row_bit-found least [] n t c up at is e = absurd (let x = at in cc)
 row_bit-found least (d ∷ cells) n t c up at is e = elim (cases_lt d.number n) [
-    | inl lt ↦
-        let rest = row_bit-found (d.number + 1) cells n t c up.1 (ap (slice_get (d ∷ cells)) (sym (rank_less d cells n lt)) ∙ at) is e in
-        omega (arith, block_bit-other d.number d.block t (λ x. omega arith), row_bit-lt cells t)
-    | inr ge ↦
-        let same : slice_get (d ∷ cells) 0 ≡ Some c = ap (slice_get (d ∷ cells)) (sym (rank_not_less d cells n ge)) ∙ at in
-        let e' : d ≡ c = cc in
-        let here : block_bit d.number d.block t ≡ bit c.block (t % 512) = rw e' (block_bit-at c.number c.block t (e ∙ sym is)) in
-        let number = ap (λ (x : Cell). x.number) e' in
-        omega (arith, row_bit-low (d.number + 1) cells t up.1 (omega arith))
-  ]
+  | inl lt ↦
+      let rest = row_bit-found (d.number + 1) cells n t c up.1 (ap (slice_get (d ∷ cells)) (sym (rank_less d cells n lt)) ∙ at) is e in
+      omega (arith, block_bit-other d.number d.block t (λ x. omega arith), row_bit-lt cells t)
+  | inr ge ↦
+      let same : slice_get (d ∷ cells) 0 ≡ Some c = ap (slice_get (d ∷ cells)) (sym (rank_not_less d cells n ge)) ∙ at in
+      let e' : d ≡ c = cc in
+      let here : block_bit d.number d.block t ≡ bit c.block (t % 512) = rw e' (block_bit-at c.number c.block t (e ∙ sym is)) in
+      let number = ap (λ (x : Cell). x.number) e' in
+      omega (arith, row_bit-low (d.number + 1) cells t up.1 (omega arith))
+]
 
 pub row_bit-absent : (least : ℕ) (cells : List Cell) (n t : ℕ) → AreAscending least cells → t / 512 ≡ n → ((c : Cell) → slice_get cells (rank_of cells n) ≡ Some c → c.number ≢ n) → row_bit cells t ≡ 0
 unfolding row_bit
 row_bit-absent least [] n t up e not = refl
 row_bit-absent least (d ∷ cells) n t up e not = elim (cases_lt d.number n) [
-    | inl lt ↦
-        let rest = row_bit-absent (d.number + 1) cells n t up.1 e (λ c at. not c (ap (slice_get (d ∷ cells)) (rank_less d cells n lt) ∙ at)) in
-        omega (arith, block_bit-other d.number d.block t (λ x. omega arith))
-    | inr ge ↦
-        let ne = not d (ap (slice_get (d ∷ cells)) (rank_not_less d cells n ge)) in
-        omega (arith, block_bit-other d.number d.block t (λ x. ne (omega arith)), row_bit-low (d.number + 1) cells t up.1 (omega arith))
-  ]
+  | inl lt ↦
+      let rest = row_bit-absent (d.number + 1) cells n t up.1 e (λ c at. not c (ap (slice_get (d ∷ cells)) (rank_less d cells n lt) ∙ at)) in
+      omega (arith, block_bit-other d.number d.block t (λ x. omega arith))
+  | inr ge ↦
+      let ne = not d (ap (slice_get (d ∷ cells)) (rank_not_less d cells n ge)) in
+      omega (arith, block_bit-other d.number d.block t (λ x. ne (omega arith)), row_bit-low (d.number + 1) cells t up.1 (omega arith))
+]
 
 pub row_bit-set : (cells : List Cell) (k t e : ℕ) (c d : Cell) → slice_get cells k ≡ Some c → block_bit d.number d.block t ≡ max (block_bit c.number c.block t) e → row_bit (slice_set cells k d) t ≡ max (row_bit cells t) e
 unfolding row_bit
@@ -126,13 +126,13 @@ ascending-set least (x ∷ cells) (suc k) c d up at e = (up.0, ascending-set (x.
 pub ascending-insert : (least : ℕ) (cells : List Cell) (c : Cell) → AreAscending least cells → least ≤ c.number → c.number < 8388608 → ((d : Cell) → slice_get cells (rank_of cells c.number) ≡ Some d → d.number ≢ c.number) → AreAscending least (insert cells (rank_of cells c.number) c)
 ascending-insert least [] c up le lt not = (le, omega arith)
 ascending-insert least (d ∷ cells) c up le lt not = elim (cases_lt d.number c.number) [
-    | inl less ↦
-        let rest = ascending-insert (d.number + 1) cells c up.1 (omega arith) lt (λ x at. not x (ap (slice_get (d ∷ cells)) (rank_less d cells c.number less) ∙ at)) in
-        subst (λ r. AreAscending least (insert (d ∷ cells) r c)) (sym (rank_less d cells c.number less)) (up.0, rest)
-    | inr ge ↦
-        let ne = not d (ap (slice_get (d ∷ cells)) (rank_not_less d cells c.number ge)) in
-        subst (λ r. AreAscending least (insert (d ∷ cells) r c)) (sym (rank_not_less d cells c.number ge)) (le, (above ne ge, up.1))
-  ]
+  | inl less ↦
+      let rest = ascending-insert (d.number + 1) cells c up.1 (omega arith) lt (λ x at. not x (ap (slice_get (d ∷ cells)) (rank_less d cells c.number less) ∙ at)) in
+      subst (λ r. AreAscending least (insert (d ∷ cells) r c)) (sym (rank_less d cells c.number less)) (up.0, rest)
+  | inr ge ↦
+      let ne = not d (ap (slice_get (d ∷ cells)) (rank_not_less d cells c.number ge)) in
+      subst (λ r. AreAscending least (insert (d ∷ cells) r c)) (sym (rank_not_less d cells c.number ge)) (le, (above ne ge, up.1))
+]
   where
     above : d.number ≢ c.number → c.number ≤ d.number → c.number + 1 ≤ d.number
     above ne ge = omega arith
@@ -164,16 +164,16 @@ pub row_bit-from_rank : (cells : List Cell) (n t : ℕ) → n ≤ t / 512 → ro
 unfolding row_bit
 row_bit-from_rank [] n t h = refl
 row_bit-from_rank (c ∷ cells) n t h = elim (cases_lt c.number n) [
-    | inl lt ↦ ap (λ r. row_bit (drop r (c ∷ cells)) t) (rank_less c cells n lt) ∙ omega (arith, row_bit-from_rank cells n t h, block_bit-other c.number c.block t (λ e. omega arith))
-    | inr ge ↦ ap (λ r. row_bit (drop r (c ∷ cells)) t) (rank_not_less c cells n ge)
-  ]
+  | inl lt ↦ ap (λ r. row_bit (drop r (c ∷ cells)) t) (rank_less c cells n lt) ∙ omega (arith, row_bit-from_rank cells n t h, block_bit-other c.number c.block t (λ e. omega arith))
+  | inr ge ↦ ap (λ r. row_bit (drop r (c ∷ cells)) t) (rank_not_less c cells n ge)
+]
 
 pub ascending-from_rank : (least : ℕ) (cells : List Cell) (n : ℕ) → n ≤ 8388608 → AreAscending least cells → AreAscending n (drop (rank_of cells n) cells)
 ascending-from_rank least [] n h up = h
 ascending-from_rank least (c ∷ cells) n h up = elim (cases_lt c.number n) [
-    | inl lt ↦ subst (λ r. AreAscending n (drop r (c ∷ cells))) (sym (rank_less c cells n lt)) (ascending-from_rank (c.number + 1) cells n h up.1)
-    | inr ge ↦ subst (λ r. AreAscending n (drop r (c ∷ cells))) (sym (rank_not_less c cells n ge)) (ge, up.1)
-  ]
+  | inl lt ↦ subst (λ r. AreAscending n (drop r (c ∷ cells))) (sym (rank_less c cells n lt)) (ascending-from_rank (c.number + 1) cells n h up.1)
+  | inr ge ↦ subst (λ r. AreAscending n (drop r (c ∷ cells))) (sym (rank_not_less c cells n ge)) (ge, up.1)
+]
 
 -- a row has no target from 2 ^ 32 on
 pub row_bit-high : (least : ℕ) (cells : List Cell) (t : ℕ) → AreAscending least cells → 4294967296 ≤ t → row_bit cells t ≡ 0

@@ -26,17 +26,17 @@ ones_below-some : (xs : List ℕ) (n : ℕ) → 0 < ones_below xs n → (i : ℕ
 unfolding ones_below
 ones_below-some xs zero h = absurd (omega arith)
 ones_below-some xs (suc n) h = elim (cases_eq (word_bit xs n) 1) [
-    | inl e ↦ (n, omega arith, e)
-    | inr ne ↦ let rest = ones_below-some xs n (omega (arith, word_bit-lt xs n)) in (rest.0, omega (arith, rest.1), rest.2)
-  ]
+  | inl e ↦ (n, omega arith, e)
+  | inr ne ↦ let rest = ones_below-some xs n (omega (arith, word_bit-lt xs n)) in (rest.0, omega (arith, rest.1), rest.2)
+]
 
 ones_below-none : (xs : List ℕ) (n i : ℕ) → i < n → ones_below xs n ≡ 0 → word_bit xs i ≡ 0
 unfolding ones_below
 ones_below-none xs zero i lt h = absurd (omega arith)
 ones_below-none xs (suc n) i lt h = elim (cases_eq i n) [
-    | inl e ↦ rw e (omega arith)
-    | inr ne ↦ ones_below-none xs n i (omega arith) (omega arith)
-  ]
+  | inl e ↦ rw e (omega arith)
+  | inr ne ↦ ones_below-none xs n i (omega arith) (omega arith)
+]
 
 ones_below-zero : (xs : List ℕ) (n : ℕ) → ((i : ℕ) → word_bit xs i ≡ 0) → ones_below xs n ≡ 0
 unfolding ones_below
@@ -50,9 +50,9 @@ size_some b h = ones_below-some b.lanes 512 h
 pub size_none : (b : Block) → size b ≡ 0 → (i : ℕ) → bit b i ≡ 0
 unfolding size
 size_none b h i = elim (cases_lt i 512) [
-    | inl lt ↦ ones_below-none b.lanes 512 i lt h
-    | inr ge ↦ bit-above b i ge
-  ]
+  | inl lt ↦ ones_below-none b.lanes 512 i lt h
+  | inr ge ↦ bit-above b i ge
+]
 
 pub size-zero : (b : Block) → ((i : ℕ) → bit b i ≡ 0) → size b ≡ 0
 unfolding size
@@ -71,14 +71,14 @@ ones_below-less : (xs ys : List ℕ) (n i : ℕ) → ((k : ℕ) → word_bit xs 
 unfolding ones_below
 ones_below-less xs ys zero i h lt less = absurd (omega arith)
 ones_below-less xs ys (suc n) i h lt less = elim (cases_eq i n) [
-    | inl e ↦ (let less' : word_bit xs n < word_bit ys n = rw e at less in omega (arith, ones_below-mono xs ys n h))
-    | inr ne ↦ omega (arith, ones_below-less xs ys n i h (omega arith) less, h n)
-  ]
+  | inl e ↦ (let less' : word_bit xs n < word_bit ys n = rw e at less in omega (arith, ones_below-mono xs ys n h))
+  | inr ne ↦ omega (arith, ones_below-less xs ys n i h (omega arith) less, h n)
+]
 
 -- a union with something new is larger
 pub size-less : (a b c : Block) → ((i : ℕ) → bit c i ≡ max (bit a i) (bit b i)) → (i : ℕ) × (bit b i ≡ 1) × (bit a i ≡ 0) → size a < size c
 unfolding size
 size-less a b c h more = elim (cases_lt more.0 512) [
-    | inl lt ↦ ones_below-less a.lanes c.lanes 512 more.0 (λ k. omega (arith, h k)) lt (omega (arith, h more.0, more.1, more.2))
-    | inr ge ↦ absurd (let z = bit-above b more.0 ge in let o = more.1 in omega arith)
-  ]
+  | inl lt ↦ ones_below-less a.lanes c.lanes 512 more.0 (λ k. omega (arith, h k)) lt (omega (arith, h more.0, more.1, more.2))
+  | inr ge ↦ absurd (let z = bit-above b more.0 ge in let o = more.1 in omega arith)
+]

@@ -64,9 +64,9 @@ pair_count-push (x ∷ rows) r e none = omega (arith, pair_count-push rows r e (
 -- a block of one bit
 pub one_bit : (b : Block) (target t : ℕ) → bit b (target % 512) ≡ 1 → ((i : ℕ) → i ≢ target % 512 → bit b i ≡ 0) → t ≢ target → block_bit (target / 512) b t ≡ 0
 one_bit b target t at others ne = elim (cases_eq (t / 512) (target / 512)) [
-    | inl same ↦ Ranks.block_bit-at (target / 512) b t same ∙ others (t % 512) (λ e. ne (omega arith))
-    | inr other ↦ Ranks.block_bit-other (target / 512) b t other
-  ]
+  | inl same ↦ Ranks.block_bit-at (target / 512) b t same ∙ others (t % 512) (λ e. ne (omega arith))
+  | inr other ↦ Ranks.block_bit-other (target / 512) b t other
+]
 
 pub pair_bit-set_twice : (rows : List Row) (h k : ℕ) (x y : Row) (t : ℕ) → k ≢ h → pair_bit (slice_set (slice_set rows h x) h y) k t ≡ pair_bit rows k t
 pair_bit-set_twice rows h k x y t ne = pair_bit-set_other (slice_set rows h x) h k y t ne ∙ pair_bit-set_other rows h k x t ne

@@ -77,9 +77,9 @@ fold-AllZero (x ∷ xs) h = ap (λ a. fold_l bit_or (bit_or 0 a) xs) (h 0) ∙ f
 pub some_lane : (xs : List ℕ) (a : ℕ) → a ≡ 0 → (fold_l bit_or a xs ≡ 0 → ⊥) → (j : ℕ) × (j < length xs) × (get_or xs j 0 ≡ 0 → ⊥)
 some_lane [] a z h = absurd (h z)
 some_lane (x ∷ xs) a z h = elim (cases_eq x 0) [
-    | inl e ↦ let rest = some_lane xs (bit_or a x) (rw (z, e)) h in (suc rest.0, omega (arith, rest.1), rest.2)
-    | inr ne ↦ (0, omega arith, ne)
-  ]
+  | inl e ↦ let rest = some_lane xs (bit_or a x) (rw (z, e)) h in (suc rest.0, omega (arith, rest.1), rest.2)
+  | inr ne ↦ (0, omega arith, ne)
+]
 
 pub word_bit-AllZero : (xs : List ℕ) (i : ℕ) → AllZero xs → word_bit xs i ≡ 0
 unfolding word_bit
@@ -103,9 +103,9 @@ some_bit xs j fits ne =
 
 pub AllZero-from_bits : (xs : List ℕ) → ((j : ℕ) → get_or xs j 0 < 2 ^ 64) → ((i : ℕ) → word_bit xs i ≡ 0) → AllZero xs
 AllZero-from_bits xs fits h j = elim (cases_eq (get_or xs j 0) 0) [
-    | inl e ↦ e
-    | inr ne ↦ absurd (let some = some_bit xs j (fits j) ne in omega (arith, h some.0, some.1))
-  ]
+  | inl e ↦ e
+  | inr ne ↦ absurd (let some = some_bit xs j (fits j) ne in omega (arith, h some.0, some.1))
+]
 
 -- the lanes that an operator gives fit
 pub zip2-fits : (f : ℕ → ℕ → ℕ) → ((a b : ℕ) → a < 2 ^ 64 → b < 2 ^ 64 → f a b < 2 ^ 64) → f 0 0 ≡ 0 → (xs ys : List ℕ) → length xs ≡ length ys → ((j : ℕ) → get_or xs j 0 < 2 ^ 64) → ((j : ℕ) → get_or ys j 0 < 2 ^ 64) → (j : ℕ) → get_or (zip2 f xs ys) j 0 < 2 ^ 64
@@ -232,11 +232,11 @@ with_bit-same xs i h = ap (λ x. bit_at x (i % 64)) (get_or-set_same xs (i / 64)
 pub with_bit-other : (xs : List ℕ) (i k : ℕ) → i / 64 < length xs → k ≢ i → word_bit (with_bit xs i) k ≡ word_bit xs k
 unfolding word_bit
 with_bit-other xs i k h ne = elim (cases_eq (k / 64) (i / 64)) [
-    | inl same ↦
-        let b = bit_at_set_other w64 (get_or xs (i / 64) 0) (i % 64) (omega arith) (k % 64) (λ e. ne (omega arith)) in
-        rw same (ap (λ x. bit_at x (k % 64)) (get_or-set_same xs (i / 64) (bit_or (get_or xs (i / 64) 0) (1 * 2 ^ (i % 64) % 2 ^ 64)) 0 h) ∙ b)
-    | inr other ↦ ap (λ x. bit_at x (k % 64)) (get_or-set_other xs (i / 64) (k / 64) (bit_or (get_or xs (i / 64) 0) (1 * 2 ^ (i % 64) % 2 ^ 64)) 0 other)
-  ]
+  | inl same ↦
+      let b = bit_at_set_other w64 (get_or xs (i / 64) 0) (i % 64) (omega arith) (k % 64) (λ e. ne (omega arith)) in
+      rw same (ap (λ x. bit_at x (k % 64)) (get_or-set_same xs (i / 64) (bit_or (get_or xs (i / 64) 0) (1 * 2 ^ (i % 64) % 2 ^ 64)) 0 h) ∙ b)
+  | inr other ↦ ap (λ x. bit_at x (k % 64)) (get_or-set_other xs (i / 64) (k / 64) (bit_or (get_or xs (i / 64) 0) (1 * 2 ^ (i % 64) % 2 ^ 64)) 0 other)
+]
 
 pub nonzero_test : (n : ℕ) → (IsTrue (not (eqb n 0)) → n ≡ 0 → ⊥) × ((n ≡ 0 → ⊥) → IsTrue (not (eqb n 0)))
 nonzero_test n = (λ t e. false≢true (ap not (sym (eq-eqb n 0 e)) ∙ t), λ h. ap not (ne_eqb n 0 h))

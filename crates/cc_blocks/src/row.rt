@@ -3,8 +3,8 @@ ghost use Rattle.std.specs.Prelude.{◌≡◌, ◌≢◌, ℕ, ◌+◌, ◌-◌,
 ghost use Rattle.cc_blocks.specs.Bits.{bit, size};
 ghost use Rattle.cc_blocks.specs.Cells.{block_bit, row_bit, row_size, AreAscending, AreAscending-IsProp, rank_of};
 
-use crate::cell::Cell;
 use crate::block::Block;
+use crate::cell::Cell;
 use std::alloc::{AllocError, Global};
 
 /// A set of targets, which are numbers below 2^32.
@@ -101,10 +101,13 @@ impl Row {
             };
             return Ok(more.count());
         }
-        self.cells.insert(at, Cell {
-            number,
-            block: *block,
-        })?;
+        self.cells.insert(
+            at,
+            Cell {
+                number,
+                block: *block,
+            },
+        )?;
         Ok(block.count())
     }
 
@@ -114,7 +117,7 @@ impl Row {
             ≡ max (row_bit self.old.cells.items target) (row_bit from.now.cells.items target)) }
         ensures fresh { OnOk result ((target : ℕ) → row_bit fresh.new.cells.items target
             ≡ max (row_bit fresh.old.cells.items target)
-                (row_bit from.now.cells.items target - row_bit self.old.cells.items target)) }
+            (row_bit from.now.cells.items target - row_bit self.old.cells.items target)) }
         ensures count { IfOk result (λ added. row_size self.new.cells.items ≡ row_size self.old.cells.items + added) }
         ensures some { IfOk result (λ added. 0 < added
             → (target : ℕ) × (row_bit from.now.cells.items target ≡ 1) × (row_bit self.old.cells.items target ≡ 0)) }
@@ -136,7 +139,7 @@ impl Row {
             ≡ max (row_bit self.old.cells.items target) (block_bit number block.now target)) }
         ensures fresh { OnOk result ((target : ℕ) → row_bit fresh.new.cells.items target
             ≡ max (row_bit fresh.old.cells.items target)
-                (block_bit number block.now target - row_bit self.old.cells.items target)) }
+            (block_bit number block.now target - row_bit self.old.cells.items target)) }
         ensures count { IfOk result (λ added. row_size self.new.cells.items ≡ row_size self.old.cells.items + added) }
         ensures some { IfOk result (λ added. 0 < added
             → (target : ℕ) × (block_bit number block.now target ≡ 1) × (row_bit self.old.cells.items target ≡ 0)) }
@@ -163,7 +166,11 @@ impl Row {
         let mut at = rank(&self.cells, number);
         while at < self.cells.len() {
             let cell = &self.cells[at];
-            let low = if cell.number == number { start % 512 } else { 0 };
+            let low = if cell.number == number {
+                start % 512
+            } else {
+                0
+            };
             if let Some(i) = cell.block.first_at_or_after(low) {
                 return Some(cell.number * 512 + i);
             }

@@ -8,7 +8,12 @@ use std::alloc::{AllocError, Global};
 
 /// Which starts reach each point over one edge or more, where no point that lies between clears the start. Bit i of a
 /// point stands for start i.
-pub fn sweep(alloc: Global, next: &[Vec<usize>], clears: &[Block], starts: &[usize]) -> Result<Vec<Block>, AllocError>
+pub fn sweep(
+    alloc: Global,
+    next: &[Vec<usize>],
+    clears: &[Block],
+    starts: &[usize],
+) -> Result<Vec<Block>, AllocError>
     requires next { StaysWithin next.now }
     requires clears { length clears.now ≡ length next.now }
     requires starts { (start : ℕ) → Contains starts.now start → start < length next.now }
@@ -34,7 +39,12 @@ pub fn sweep(alloc: Global, next: &[Vec<usize>], clears: &[Block], starts: &[usi
 }
 
 // Adds the bits to these points.
-fn pass_all(reach: &mut Vec<Block>, work: &mut Vec<usize>, points: &[usize], block: &Block) -> Result<(), AllocError>
+fn pass_all(
+    reach: &mut Vec<Block>,
+    work: &mut Vec<usize>,
+    points: &[usize],
+    block: &Block,
+) -> Result<(), AllocError>
     requires { (point : ℕ) → Contains points.now point → point < length reach.old.items }
     ensures { OnOk result (Passes reach.old.items reach.new.items work.old.items work.new.items points.now (bit block.now)) }
 {
@@ -45,7 +55,12 @@ fn pass_all(reach: &mut Vec<Block>, work: &mut Vec<usize>, points: &[usize], blo
 }
 
 // Adds the bits to a point, and puts it to the work if one of them is new.
-fn pass(reach: &mut Vec<Block>, work: &mut Vec<usize>, point: usize, block: &Block) -> Result<(), AllocError>
+fn pass(
+    reach: &mut Vec<Block>,
+    work: &mut Vec<usize>,
+    point: usize,
+    block: &Block,
+) -> Result<(), AllocError>
     requires { point < length reach.old.items }
     ensures { OnOk result (Passes reach.old.items reach.new.items work.old.items work.new.items (point ∷ []) (bit block.now)) }
 {

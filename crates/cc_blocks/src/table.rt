@@ -82,7 +82,13 @@ impl Rows {
     }
 
     /// Gives the targets of one holder to another one, and those that are new to the same holder of another table.
-    pub fn flow(&mut self, alloc: Global, from: u32, to: u32, fresh: &mut Rows) -> Result<u64, AllocError>
+    pub fn flow(
+        &mut self,
+        alloc: Global,
+        from: u32,
+        to: u32,
+        fresh: &mut Rows,
+    ) -> Result<u64, AllocError>
         requires from { from < length self.old.rows.items }
         requires here { to < length self.old.rows.items }
         requires there { to < length fresh.old.rows.items }

@@ -20,13 +20,7 @@ impl Facts {
     {
         let count = self.parts.count();
         match target {
-            Target::Part(part) => {
-                if part < count {
-                    Some(part)
-                } else {
-                    None
-                }
-            }
+            Target::Part(part) => { if part < count { Some(part) } else { None } }
             Target::Function(g) => {
                 if g <= u32::MAX - count {
                     Some(count + g)

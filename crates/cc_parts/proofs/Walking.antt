@@ -28,5 +28,5 @@ walk-on parts last q zero j e lt le = absurd (omega arith)
 walk-on parts last q (suc k) j e lt le =
     let same : k ≡ j = omega arith in
     chosen (nat_lt q last && nat_le (size_at parts q) (last - q)) (walk parts last (q + size_at parts q) k) None
-      (ap (λ b. b && nat_le (size_at parts q) (last - q)) (lt-ltb q last lt) ∙ le-leb (size_at parts q) (last - q) le)
+    (ap (λ b. b && nat_le (size_at parts q) (last - q)) (lt-ltb q last lt) ∙ le-leb (size_at parts q) (last - q) le)
     ∙ ap (walk parts last (q + size_at parts q)) same

@@ -1,6 +1,5 @@
 -- The parts of an object of a type, in preorder.
-use Rattle.std.specs.Prelude.{ℕ, zero, suc, ◌-◌, Bool, true, List, [], ◌∷◌, ◌++◌, length}
-use Rattle.cc_tree.specs.declared.ids.StructId.{StructId}
+use Rattle.std.specs.Prelude.{ℕ, zero, suc, Bool, true, List, [], ◌∷◌, ◌++◌, length}
 use Rattle.cc_types.specs.declared.shape.Shape.{Shape}
 use Rattle.cc_types.specs.declared.shape.Shape.TheVariants as s
 use Rattle.cc_types.specs.declared.shape.TypeId.{TypeId}
@@ -19,10 +18,6 @@ part object form in_array size = record { object = object; form = form; in_array
 abbrev pub headed : ℕ → Form → Bool → List Part → List Part
 headed object form in_array inner = part object form in_array (suc (length inner)) ∷ inner
 
--- how many parts there are from this one on
-abbrev pub since : List Part → ℕ → ℕ
-since parts start = length parts - start
-
 -- the parts of the members, one after another
 abbrev pub parts_of_members : (TypeId → List Part) → List Member → List Part
 parts_of_members parts [] = []
@@ -40,10 +35,3 @@ parts_by_shape inner es object in_array shape = headed object form.Other in_arra
 abbrev pub parts_of : List Shape → List StructEntry → ℕ → ℕ → Bool → TypeId → List Part
 parts_of ss es object zero in_array t = headed object form.Other in_array []
 parts_of ss es object (suc depth) in_array t = parts_by_shape (parts_of ss es object depth) es object in_array (shape_of ss t)
-
--- those of a struct and of an array whose types may stand so deep in one another
-abbrev pub struct_parts : List Shape → List StructEntry → ℕ → ℕ → Bool → StructId → List Part
-struct_parts ss es object depth in_array id = headed object (form.Struct id) in_array (parts_of_members (parts_of ss es object depth in_array) (entry_of es id).members)
-
-abbrev pub array_parts : List Shape → List StructEntry → ℕ → ℕ → Bool → TypeId → List Part
-array_parts ss es object depth in_array t = headed object form.Array in_array (parts_of ss es object depth true t)

@@ -37,20 +37,18 @@ impl Parts {
     }
 
     /// Puts an object of a type at the end. Fails where memory or numbers are wanting.
-    pub fn put_object(&mut self, table: &TypeTable, structs: &Structs, node: u32, kind: TypeId) -> Result<(), Memory>
+    pub fn put_object(
+        &mut self,
+        table: &TypeTable,
+        structs: &Structs,
+        node: u32,
+        kind: TypeId,
+    ) -> Result<(), Memory>
         ensures { OnOk result (self.new ≡ spec.with_object table.now structs.now node kind self.old) }
     {
         let object = self.objects.count()?;
         let first = self.parts.count()?;
-        put_parts(
-            &mut self.parts,
-            table,
-            structs,
-            object,
-            DEPTH,
-            false,
-            kind,
-        )?;
+        put_parts(&mut self.parts, table, structs, object, DEPTH, false, kind)?;
         self.objects.push(Object { node, first })
     }
 
@@ -188,7 +186,11 @@ impl Parts {
         ensures { result ≡ spec.pointer_in self.now.parts id.0 q offset }
     {
         let count = self.count();
-        if !self.is_struct(id, q) || offset >= self.size_at(q) || q >= count || offset >= count - q {
+        if !self.is_struct(id, q)
+            || offset >= self.size_at(q)
+            || q >= count
+            || offset >= count - q
+        {
             return None;
         }
         let r = q + offset;
@@ -210,5 +212,9 @@ impl Parts {
 fn next_below(count: u32, q: u32) -> Option<u32>
     ensures { result ≡ spec.next_below count q }
 {
-    if q < count && q + 1 < count { Some(q + 1) } else { None }
+    if q < count && q + 1 < count {
+        Some(q + 1)
+    } else {
+        None
+    }
 }

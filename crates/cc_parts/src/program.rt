@@ -9,7 +9,12 @@ use cc_program::{Program, Variable};
 use cc_types::{Structs, TypeTable};
 use std::alloc::Global;
 
-fn put_variables(parts: &mut Parts, table: &TypeTable, structs: &Structs, variables: &[Variable]) -> Result<(), Memory>
+fn put_variables(
+    parts: &mut Parts,
+    table: &TypeTable,
+    structs: &Structs,
+    variables: &[Variable],
+) -> Result<(), Memory>
     ensures { OnOk result (parts.new ≡ spec.with_variables table.now structs.now variables.now parts.old) }
 {
     for variable in variables {

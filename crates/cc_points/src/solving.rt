@@ -48,6 +48,7 @@ impl From<Stop> for PointsFault {
 
 // How many facts there may be, and how many pairs the solver may keep in all.
 const MOST: u64 = 4_194_304;
+
 const ROOM: u64 = 4_294_967_296;
 
 // The pairs of a view, if its numbers are small.

@@ -57,7 +57,6 @@ pub data SlotFollows (P : View) (S : Fact → Type 0) : ℕ → ℕ → Type 0 w
   Begins : (n : ℕ) {s e t : ℕ} {c : Class} {u : Bool} → Stands P n (Init s e) c u → S (MayBe e t) → SlotFollows P S s t
   -- F7: the k-th argument of a call, and the formal of the function that it calls
   Passes : (n k : ℕ) {f a g s t : ℕ} {args : Span} {c : Class} {u : Bool} → Stands P n (Call f args) c u → S (MayBe f g) → slice_get (part_list P.lists args) k ≡ Some a → formal_of P g k ≡ Some s → S (MayBe a t) → SlotFollows P S s t
-
   -- F9: a struct assignment, and the j-th pointer in the struct
   Copies : (n j : ℕ) {id l r w p q d s t : ℕ} {paths : Span} {u : Bool} → Stands P n (Assign l r) (Struct id paths) u → slice_get (part_list P.lists paths) j ≡ Some w → PartOf P S l p → PartOf P S r q → leaf_of P id p w ≡ Some s → leaf_of P id q w ≡ Some d → S (MayHold d t) → SlotFollows P S s t
 

@@ -14,5 +14,8 @@ mod view;
 pub use constraint::{Constraint, Watch};
 pub use layout::{Layout, is_small, lay_out};
 pub use make::constraints;
-pub use parts::{element_of, formal_of, function_of, is_function, is_part, leaf_of, member_of, part_list, slot_of};
+pub use parts::{
+    element_of, formal_of, function_of, is_function, is_part, leaf_of, member_of, part_list,
+    slot_of,
+};
 pub use view::{Callee, Class, Seen, View, What};

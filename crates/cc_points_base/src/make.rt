@@ -25,10 +25,7 @@ fn passes(out: &mut Vec<Constraint>, layout: Layout, f: u32, args: &[u32]) -> Re
     for (k, arg) in args.iter().enumerate() {
         push(
             out,
-            Constraint::Watches(
-                layout.value(f),
-                Watch::Passes(k as u32, layout.value(*arg)),
-            ),
+            Constraint::Watches(layout.value(f), Watch::Passes(k as u32, layout.value(*arg))),
         )?;
     }
     Ok(())

@@ -77,7 +77,10 @@ pub fn formal_of(view: &View, target: u32, k: u32) -> Option<u32>
     ensures { result ≡ spec.formal_of view.now target k }
 {
     match callee_at(view, target) {
-        Some(callee) => slot_in(view, number_at(part_list(view.lists.as_slice(), callee.formals), k)),
+        Some(callee) => slot_in(
+            view,
+            number_at(part_list(view.lists.as_slice(), callee.formals), k),
+        ),
         None => None,
     }
 }

@@ -38,9 +38,9 @@ module _ (L : Layout) (lists : List ℕ) where
       let first : m ≡ n = omega arith in
       let copy : j ≡ k = omega arith in
       asked_kept xs (n + 1) (k + copies_in lists z.what z.class) (asked L lists n k z out) y (⊎_elim
-        (λ a. pushed_kept (reads L n z.class z.used) _ y (pushed_new (asks L lists n k z.class z.what) out y (subst (λ i. Contains (asks L lists n i z.class z.what) y) copy (subst (λ i. Contains (asks L lists i j z.class z.what) y) first (subst (λ (p : Seen). Contains (asks L lists m j p.class p.what) y) same a)))))
-        (λ r. pushed_new (reads L n z.class z.used) (all_pushed (asks L lists n k z.class z.what) out) y (subst (λ i. Contains (reads L i z.class z.used) y) first (subst (λ (p : Seen). Contains (reads L m p.class p.used) y) same r)))
-        is)
+      (λ a. pushed_kept (reads L n z.class z.used) _ y (pushed_new (asks L lists n k z.class z.what) out y (subst (λ i. Contains (asks L lists n i z.class z.what) y) copy (subst (λ i. Contains (asks L lists i j z.class z.what) y) first (subst (λ (p : Seen). Contains (asks L lists m j p.class p.what) y) same a)))))
+      (λ r. pushed_new (reads L n z.class z.used) (all_pushed (asks L lists n k z.class z.what) out) y (subst (λ i. Contains (reads L i z.class z.used) y) first (subst (λ (p : Seen). Contains (reads L m p.class p.used) y) same r)))
+      is)
   asked_has (z ∷ xs) n k (suc i) m j x out y e f at is = asked_has xs (n + 1) (k + copies_in lists z.what z.class) i m j x (asked L lists n k z out) y (omega arith) (omega arith) at is
 
   -- and all that is asked is asked by a node
@@ -51,9 +51,9 @@ module _ (L : Layout) (lists : List ℕ) where
   asked_are Q (x ∷ xs) n k out old all y is =
       let now = all 0 n k x (omega arith) (omega arith) refl in
       asked_are Q xs (n + 1) (k + copies_in lists x.what x.class) (asked L lists n k x out)
-        (λ z has. pushed_are Q (reads L n x.class x.used) (all_pushed (asks L lists n k x.class x.what) out) (λ v h. pushed_are Q (asks L lists n k x.class x.what) out old now.0 v h) now.1 z has)
-        (λ i m j v e f at. all (suc i) m j v (omega arith) (omega arith) at)
-        y is
+      (λ z has. pushed_are Q (reads L n x.class x.used) (all_pushed (asks L lists n k x.class x.what) out) (λ v h. pushed_are Q (asks L lists n k x.class x.what) out old now.0 v h) now.1 z has)
+      (λ i m j v e f at. all (suc i) m j v (omega arith) (omega arith) at)
+      y is
 
   -- what a node copies lies before what a later one copies, and within what all copy
   pub before_later : (xs : List Seen) (n m : ℕ) (x : Seen) → slice_get xs n ≡ Some x → n < m → before lists xs n + copies_in lists x.what x.class ≤ before lists xs m
@@ -74,9 +74,9 @@ module _ (L : Layout) (lists : List ℕ) where
   -- a copy is of one node alone, and of one pointer
   pub one_copy : (xs : List Seen) (n m i j : ℕ) (x y : Seen) → slice_get xs n ≡ Some x → slice_get xs m ≡ Some y → i < copies_in lists x.what x.class → j < copies_in lists y.what y.class → before lists xs n + i ≡ before lists xs m + j → (n ≡ m) × (i ≡ j)
   one_copy xs n m i j x y at_n at_m lt_i lt_j e = elim (cases_lt n m) [
-      | inl lt ↦ absurd (omega (arith, before_later xs n m x at_n lt))
-      | inr ge ↦ elim (cases_lt m n) [
-        | inl gt ↦ absurd (omega (arith, before_later xs m n y at_m gt))
-        | inr le ↦ (let same : n ≡ m = omega arith in (same, omega (arith, ap (before lists xs) same)))
-      ]
+    | inl lt ↦ absurd (omega (arith, before_later xs n m x at_n lt))
+    | inr ge ↦ elim (cases_lt m n) [
+      | inl gt ↦ absurd (omega (arith, before_later xs m n y at_m gt))
+      | inr le ↦ (let same : n ≡ m = omega arith in (same, omega (arith, ap (before lists xs) same)))
     ]
+  ]

@@ -45,9 +45,10 @@ copied L id k l r (v ∷ paths) j zero m w e at =
     (subst (λ n. Contains (copies L id k l r (v ∷ paths) j) (Watches (place L r) (watch.Copies id n (copy L (k + j)))) × Contains (copies L id k l r (v ∷ paths) j) (Watches (place L l) (watch.Pastes id n (copy L (k + j))))) same
     ((0, omega arith, refl), (1, omega arith, refl)))
 copied L id k l r (v ∷ paths) j (suc i) m w e at =
-    let more = copied L id k l r paths (j + 1) i m w (omega arith) at in
-    (past_two (Watches (place L r) (watch.Copies id v (copy L (k + j)))) (Watches (place L l) (watch.Pastes id v (copy L (k + j)))) (copies L id k l r paths (j + 1)) (Watches (place L r) (watch.Copies id w (copy L m))) more.0,
-     past_two (Watches (place L r) (watch.Copies id v (copy L (k + j)))) (Watches (place L l) (watch.Pastes id v (copy L (k + j)))) (copies L id k l r paths (j + 1)) (Watches (place L l) (watch.Pastes id w (copy L m))) more.1)
+    let more = copied L id k l r paths (j + 1) i m w (omega arith) at in (
+      past_two (Watches (place L r) (watch.Copies id v (copy L (k + j)))) (Watches (place L l) (watch.Pastes id v (copy L (k + j)))) (copies L id k l r paths (j + 1)) (Watches (place L r) (watch.Copies id w (copy L m))) more.0,
+      past_two (Watches (place L r) (watch.Copies id v (copy L (k + j)))) (Watches (place L l) (watch.Pastes id v (copy L (k + j)))) (copies L id k l r paths (j + 1)) (Watches (place L l) (watch.Pastes id w (copy L m))) more.1,
+    )
 
 module _ (P : View) (given : List Pair) (joins : List Edge) (Adds Gives : ℕ → ℕ → ℕ → ℕ → Type 0) (knows : Knows P (layout_of P) (holders_of (layout_of P)) (asked_by P) given joins Adds Gives) (S : Fact → Type 0) where
   L : Layout

@@ -112,7 +112,7 @@ module _ (P : View) where
       let h = part_by r q is_right in
       let gh = g.0 ++ h.0 in
       at_end (gh ++ m.0) (MayHold s t) (both gh m.0 (both g.0 h.0 g.1 h.1) m.1)
-        (Copies n j at path (part_left gh m.0 l p (part_left g.0 h.0 l p g.2)) (part_left gh m.0 r q (part_right g.0 h.0 r q h.2)) to from (right gh m.0 _ m.2))
+      (Copies n j at path (part_left gh m.0 l p (part_left g.0 h.0 l p g.2)) (part_left gh m.0 r q (part_right g.0 h.0 r q h.2)) to from (right gh m.0 _ m.2))
 
   pub derived_closed : (f : Fact) → Follows P IsDerived f → IsDerived f
   derived_closed (MayBe n t) is = value_derived n t is
@@ -150,11 +150,14 @@ module _ (P : View) where
     all_below zero = ([], tt, λ k f lt is. absurd (omega arith))
     all_below (suc bound) =
         let old = all_below bound in
-        let new = each bound in
-        (old.0 ++ new.0, both old.0 new.0 old.1 new.1, λ k f lt is. elim (cases_eq k bound) [
-          | inl e ↦ right old.0 new.0 f (new.2 f (subst (λ i. Is i f) e is))
-          | inr ne ↦ left old.0 new.0 f (old.2 k f (omega arith) is)
-        ])
+        let new = each bound in (
+          old.0 ++ new.0,
+          both old.0 new.0 old.1 new.1,
+          λ k f lt is. elim (cases_eq k bound) [
+            | inl e ↦ right old.0 new.0 f (new.2 f (subst (λ i. Is i f) e is))
+            | inr ne ↦ left old.0 new.0 f (old.2 k f (omega arith) is)
+          ],
+        )
 
   pub join : (a b : List Fact) → Derives P [] a → Derives P [] b → Derives P [] (a ++ b)
   join = both

@@ -34,9 +34,9 @@ Gives P table p q h t = GivesPair P (row_of table p) q (record { holder = h; tar
 
 in_small : (cells : List Cell) (t : ℕ) → AreAscending 0 cells → row_bit cells t ≡ 1 → t < 4294967296
 in_small cells t up is = elim (cases_lt t 4294967296) [
-    | inl lt ↦ lt
-    | inr ge ↦ absurd (let z = row_bit-high 0 cells t up ge in omega arith)
-  ]
+  | inl lt ↦ lt
+  | inr ge ↦ absurd (let z = row_bit-high 0 cells t up ge in omega arith)
+]
 
 targets_small : (rows : List Row) (h t : ℕ) → pair_bit rows h t ≡ 1 → t < 4294967296
 unfolding pair_bit
@@ -58,9 +58,9 @@ module _ (P : View) (given : List Pair) (joins : List Edge) (table : List (List 
   one : (f : Fact) → IsFactWithin P f ⊎ (IsFactWithin P f → ⊥) → (l : List Fact) × Derives P [] l × (IsFactWithin P f → Bit f → Contains l f)
   one f (inr never) = ([], tt, λ w bit. absurd (never w))
   one f (inl w) = elim (cases_eq (pair_bit rows (holder_of (layout_of P) f) (target_of f)) 1) [
-      | inl bit ↦ (let d = derived f w bit in (d.0, d.1, λ v b. d.2))
-      | inr ne ↦ ([], tt, λ v b. absurd (ne b))
-    ]
+    | inl bit ↦ (let d = derived f w bit in (d.0, d.1, λ v b. d.2))
+    | inr ne ↦ ([], tt, λ v b. absurd (ne b))
+  ]
 
   or_not : (a b : ℕ) → (a < b) ⊎ (a < b → ⊥)
   or_not a b = ⊎_elim inl (λ ge. inr (λ lt. omega arith)) (cases_lt a b)
@@ -98,13 +98,15 @@ module _ (P : View) (given : List Pair) (joins : List Edge) (table : List (List 
 
   pub exists : (facts : List Fact) × IsPointsTo P facts
   exists =
-      let d = join P values.0 slots.0 values.1 slots.1 in
-      (values.0 ++ slots.0, record {
-        derived = d;
-        closed = λ f is. has f (fact_within P (Contains (values.0 ++ slots.0)) within f is)
-            ((exact (holder_of (layout_of P) f) (target_of f)).1 (covered P given joins (Adds P table) (Gives P table) (Known.knows P given joins table e_given e_joins e_table) (Contains (values.0 ++ slots.0))
+      let d = join P values.0 slots.0 values.1 slots.1 in (
+        values.0 ++ slots.0,
+        record {
+          derived = d;
+          closed = λ f is. has f (fact_within P (Contains (values.0 ++ slots.0)) within f is)
+              ((exact (holder_of (layout_of P) f) (target_of f)).1 (covered P given joins (Adds P table) (Gives P table) (Known.knows P given joins table e_given e_joins e_table) (Contains (values.0 ++ slots.0))
               (λ g c. Known.derived P given joins table e_given e_joins e_table [] (values.0 ++ slots.0) (λ x never. absurd (none x never)) d g c) f is));
-      })
+        },
+      )
 
 -- with the bound that each target has
 pub facts_exist : (P : View) (given : List Pair) (joins : List Edge) (table : List (List Watch)) (e_given : given ≡ givens (asked_by P) []) (e_joins : joins ≡ all_joins (asked_by P) []) (e_table : table ≡ tabled (asked_by P) (replicate (holders_of (layout_of P)) [])) (rows : List Row) →

@@ -73,9 +73,9 @@ module _ (P : View) (given : List Pair) (joins : List Edge) (table : List (List 
   derived earlier (x ∷ facts) ok d f is =
       let now = covered P given joins Adds Gives knows (Contains earlier) ok x d.0 in
       ⊎_elim
-        (λ e. subst (λ y. Least given joins Adds Gives (holder_of (layout_of P) y) (target_of y)) e now)
-        (λ more. derived (earlier ++ x ∷ []) facts (λ g c. ⊎_elim (ok g) (λ e. subst (λ y. Least given joins Adds Gives (holder_of (layout_of P) y) (target_of y)) e now) (Contains-push_cases earlier x g c)) d.1 f more)
-        (cons_cases x facts f is)
+      (λ e. subst (λ y. Least given joins Adds Gives (holder_of (layout_of P) y) (target_of y)) e now)
+      (λ more. derived (earlier ++ x ∷ []) facts (λ g c. ⊎_elim (ok g) (λ e. subst (λ y. Least given joins Adds Gives (holder_of (layout_of P) y) (target_of y)) e now) (Contains-push_cases earlier x g c)) d.1 f more)
+      (cons_cases x facts f is)
 
   module _ (within : IsWithin P) (facts : List Fact) (is : IsPointsTo P facts) where
     pub to_pair : (f : Fact) → Contains facts f → Least given joins Adds Gives (holder_of (layout_of P) f) (target_of f)
@@ -93,20 +93,24 @@ module _ (P : View) (given : List Pair) (joins : List Edge) (table : List (List 
     -- a pair of a holder that counts is a fact
     pair_fact : (h t : ℕ) → h < length P.nodes + slots_in P → Least given joins Adds Gives h t → (f : Fact) × IsFactWithin P f × Contains facts f × (holder_of (layout_of P) f ≡ h) × (target_of f ≡ t)
     pair_fact h t lt l = elim (cases_lt h (length P.nodes)) [
-        | inl low ↦ (let e = value_is (layout_of P) h low in (MayBe h t, low, to_fact (MayBe h t) low (subst (λ x. Least given joins Adds Gives x t) (sym e) l), e, refl))
-        | inr ge ↦
-            (let s = h - length P.nodes in
-            let low : s < slots_in P = omega (arith, lt, ge) in
-            let e : slot (layout_of P) s ≡ h = slot_is (layout_of P) s low ∙ omega (arith, ge) in
-            (MayHold s t, low, to_fact (MayHold s t) low (subst (λ x. Least given joins Adds Gives x t) (sym e) l), e, refl))
-      ]
+      | inl low ↦ (let e = value_is (layout_of P) h low in (MayBe h t, low, to_fact (MayBe h t) low (subst (λ x. Least given joins Adds Gives x t) (sym e) l), e, refl))
+      | inr ge ↦
+          (let s = h - length P.nodes in
+          let low : s < slots_in P = omega (arith, lt, ge) in
+          let e : slot (layout_of P) s ≡ h = slot_is (layout_of P) s low ∙ omega (arith, ge) in
+          (MayHold s t, low, to_fact (MayHold s t) low (subst (λ x. Least given joins Adds Gives x t) (sym e) l), e, refl))
+    ]
 
     pub more_facts : (limits : Limits) → limits.counters ≡ length P.nodes + slots_in P → HasMore limits (Least given joins Adds Gives) → HasMoreFacts P facts limits.most
     more_facts limits e more = (more.0, more.1, λ h t bit. let x = more.2 h t bit in pair_fact h t (omega (arith, x.0, e)) x.1)
 
     pub more_pairs : (limits : Limits) → limits.counters ≡ length P.nodes + slots_in P → HasMoreFacts P facts limits.most → HasMore limits (Least given joins Adds Gives)
-    more_pairs limits e more = (more.0, more.1, λ h t bit. let x = more.2 h t bit in
-        (subst (λ y. y < limits.counters) x.3 (counts limits e x.0 x.1), subst (λ y. Least given joins Adds Gives y t) x.3 (subst (Least given joins Adds Gives (holder_of (layout_of P) x.0)) x.4 (to_pair x.0 x.2))))
+    more_pairs limits e more = (
+      more.0,
+      more.1,
+      λ h t bit. let x = more.2 h t bit in
+          (subst (λ y. y < limits.counters) x.3 (counts limits e x.0 x.1), subst (λ y. Least given joins Adds Gives y t) x.3 (subst (Least given joins Adds Gives (holder_of (layout_of P) x.0)) x.4 (to_pair x.0 x.2))),
+    )
       where
         counts : (limits : Limits) → limits.counters ≡ length P.nodes + slots_in P → (f : Fact) → IsFactWithin P f → holder_of (layout_of P) f < limits.counters
         counts limits e (MayBe n t) low = omega (arith, value_is (layout_of P) n low, e)

@@ -60,37 +60,37 @@ decode_copy L k lt = ap (decode L) (copy_is L k lt) ∙ sym (cond_above (L.nodes
 pub value_within : (L : Layout) (n : ℕ) → value L n < holders_of L
 unfolding value spare
 value_within L n = elim (cases_lt n L.nodes) [
-    | inl lt ↦ omega (arith, sym (cond_below n L.nodes n (spare L) lt))
-    | inr ge ↦ omega (arith, sym (cond_above n L.nodes n (spare L) (spare L) ge refl))
-  ]
+  | inl lt ↦ omega (arith, sym (cond_below n L.nodes n (spare L) lt))
+  | inr ge ↦ omega (arith, sym (cond_above n L.nodes n (spare L) (spare L) ge refl))
+]
 
 pub slot_within : (L : Layout) (s : ℕ) → slot L s < holders_of L
 unfolding slot spare
 slot_within L s = elim (cases_lt s L.slots) [
-    | inl lt ↦ omega (arith, sym (cond_below s L.slots (L.nodes + s) (spare L) lt))
-    | inr ge ↦ omega (arith, sym (cond_above s L.slots (L.nodes + s) (spare L) (spare L) ge refl))
-  ]
+  | inl lt ↦ omega (arith, sym (cond_below s L.slots (L.nodes + s) (spare L) lt))
+  | inr ge ↦ omega (arith, sym (cond_above s L.slots (L.nodes + s) (spare L) (spare L) ge refl))
+]
 
 pub place_within : (L : Layout) (n : ℕ) → place L n < holders_of L
 unfolding place spare
 place_within L n = elim (cases_lt n L.nodes) [
-    | inl lt ↦ omega (arith, sym (cond_below n L.nodes (L.nodes + L.slots + n) (spare L) lt))
-    | inr ge ↦ omega (arith, sym (cond_above n L.nodes (L.nodes + L.slots + n) (spare L) (spare L) ge refl))
-  ]
+  | inl lt ↦ omega (arith, sym (cond_below n L.nodes (L.nodes + L.slots + n) (spare L) lt))
+  | inr ge ↦ omega (arith, sym (cond_above n L.nodes (L.nodes + L.slots + n) (spare L) (spare L) ge refl))
+]
 
 pub result_within : (L : Layout) (i : ℕ) → result L i < holders_of L
 unfolding result spare
 result_within L i = elim (cases_lt i L.functions) [
-    | inl lt ↦ omega (arith, sym (cond_below i L.functions (L.nodes + L.slots + L.nodes + i) (spare L) lt))
-    | inr ge ↦ omega (arith, sym (cond_above i L.functions (L.nodes + L.slots + L.nodes + i) (spare L) (spare L) ge refl))
-  ]
+  | inl lt ↦ omega (arith, sym (cond_below i L.functions (L.nodes + L.slots + L.nodes + i) (spare L) lt))
+  | inr ge ↦ omega (arith, sym (cond_above i L.functions (L.nodes + L.slots + L.nodes + i) (spare L) (spare L) ge refl))
+]
 
 pub copy_within : (L : Layout) (k : ℕ) → copy L k < holders_of L
 unfolding copy spare
 copy_within L k = elim (cases_lt k L.copies) [
-    | inl lt ↦ omega (arith, sym (cond_below k L.copies (L.nodes + L.slots + L.nodes + L.functions + k) (spare L) lt))
-    | inr ge ↦ omega (arith, sym (cond_above k L.copies (L.nodes + L.slots + L.nodes + L.functions + k) (spare L) (spare L) ge refl))
-  ]
+  | inl lt ↦ omega (arith, sym (cond_below k L.copies (L.nodes + L.slots + L.nodes + L.functions + k) (spare L) lt))
+  | inr ge ↦ omega (arith, sym (cond_above k L.copies (L.nodes + L.slots + L.nodes + L.functions + k) (spare L) (spare L) ge refl))
+]
 
 pub spare_fits : (L : Layout) → (L.nodes < 2 ^ 29) × (L.slots < 2 ^ 29) × (L.functions < 2 ^ 29) × (L.copies < 2 ^ 29) → spare L + 1 < 4294967296
 unfolding spare

@@ -215,9 +215,10 @@ module _ (P : View) (S : Fact → Type 0) where
         ((k a : ℕ) → slice_get args k ≡ Some a → (a < length P.nodes) × (slice_get (part_list P.lists all) (j + k) ≡ Some a)) → Every IsRight (passes (layout_of P) f args j)
     passes_right n f c u all at lt [] j are = tt
     passes_right n f c u all at lt (a ∷ args) j are =
-        let first = are 0 a refl in
-        (λ q called s t is m. put_slot s t (within.formals q j s is) (closed (MayHold s t) (Passes n j at (get_value f q lt called) (subst (λ i. slice_get (part_list P.lists all) i ≡ Some a) (omega arith) first.1) is (get_value a t first.0 m))),
-         passes_right n f c u all at lt args (j + 1) (λ k b is. let more = are (suc k) b is in (more.0, subst (λ i. slice_get (part_list P.lists all) i ≡ Some b) (omega arith) more.1)))
+        let first = are 0 a refl in (
+          λ q called s t is m. put_slot s t (within.formals q j s is) (closed (MayHold s t) (Passes n j at (get_value f q lt called) (subst (λ i. slice_get (part_list P.lists all) i ≡ Some a) (omega arith) first.1) is (get_value a t first.0 m))),
+          passes_right n f c u all at lt args (j + 1) (λ k b is. let more = are (suc k) b is in (more.0, subst (λ i. slice_get (part_list P.lists all) i ≡ Some b) (omega arith) more.1)),
+        )
 
     -- a copy is pasted by the assignment that makes it
     pasted : (n j id l r w p s t : ℕ) (paths : Span) (u : Bool) → Stands P n (what.Assign l r) (class.Struct id paths) u → slice_get (part_list P.lists paths) j ≡ Some w → PartOf P S l p → leaf_of P id p w ≡ Some s → IsCopied P S (before P.lists P.nodes n + j) t → S (MayHold s t)
@@ -237,10 +238,13 @@ module _ (P : View) (S : Fact → Type 0) where
     copies_right n id l r all u at l_lt r_lt (w ∷ paths) j are =
         let path : slice_get (part_list P.lists all) j ≡ Some w = subst (λ i. slice_get (part_list P.lists all) i ≡ Some w) (omega arith) (are 0 w refl) in
         let k = before P.lists P.nodes n + j in
-        let lt : k < all_copies P.lists P.nodes = omega (arith, before_within (layout_of P) P.lists P.nodes n _ at, slice_get_within (part_list P.lists all) j w path) in
-        (λ q m d t is h. put_copy k t lt (record { n = n; j = j; id = id; l = l; r = r; w = w; q = q; d = d; paths = all; u = u; at = at; path = path; number = refl; right = get_place r q r_lt m; leaf = is; held = get_slot d t (within.leaves id q w d is) h }),
-         (λ q m s t is h. put_slot s t (within.leaves id q w s is) (pasted n j id l r w q s t all u at path (get_place l q l_lt m) is (get_copy k t lt h)),
-          copies_right n id l r all u at l_lt r_lt paths (j + 1) (λ i v e. subst (λ x. slice_get (part_list P.lists all) x ≡ Some v) (omega arith) (are (suc i) v e))))
+        let lt : k < all_copies P.lists P.nodes = omega (arith, before_within (layout_of P) P.lists P.nodes n _ at, slice_get_within (part_list P.lists all) j w path) in (
+          λ q m d t is h. put_copy k t lt (record { n = n; j = j; id = id; l = l; r = r; w = w; q = q; d = d; paths = all; u = u; at = at; path = path; number = refl; right = get_place r q r_lt m; leaf = is; held = get_slot d t (within.leaves id q w d is) h }),
+          (
+            λ q m s t is h. put_slot s t (within.leaves id q w s is) (pasted n j id l r w q s t all u at path (get_place l q l_lt m) is (get_copy k t lt h)),
+            copies_right n id l r all u at l_lt r_lt paths (j + 1) (λ i v e. subst (λ x. slice_get (part_list P.lists all) x ≡ Some v) (omega arith) (are (suc i) v e)),
+          ),
+        )
 
     stores_right : (n l r : ℕ) (c : Class) (u : Bool) → Stands P n (what.Assign l r) c u → l < length P.nodes → r < length P.nodes → Every IsRight (stores (layout_of P) P.lists (before P.lists P.nodes n) c l r)
     stores_right n l r class.Pointer u at l_lt r_lt = (λ q p s t is m. put_slot s t (within.slots q s is) (closed (MayHold s t) (Stores n at (get_place l q l_lt p) is (get_value r t r_lt m))), tt)
@@ -251,28 +255,33 @@ module _ (P : View) (S : Fact → Type 0) where
     asks_right : (n : ℕ) (x : What) (c : Class) (u : Bool) → Stands P n x c u → n < length P.nodes → IsSeenWithin P x → Every IsRight (asks (layout_of P) P.lists n (before P.lists P.nodes n) c x)
     asks_right n (what.Name q) c u at lt w = (put_place n q lt (OfName at), tt)
     asks_right n (what.Designator g) c u at lt w = (put_value n g lt (closed (MayBe n g) (Names at)), tt)
-    asks_right n (what.Paren e) c u at lt w =
-        (λ t m. put_value n t lt (closed (MayBe n t) (Wraps at (get_value e t w m))),
-         (λ t m. put_place n t lt (OfParen at (get_place e t w m)), tt))
-    asks_right n (what.Address e) c u at lt w =
-        (λ t m. put_value n t lt (closed (MayBe n t) (Addresses at (get_place e t w m))),
-         (λ q m is. put_value n q lt (closed (MayBe n q) (AddressesFunction at (get_value e q w m) is)), tt))
-    asks_right n (what.Deref e) c u at lt w =
-        (λ q m is. put_place n q lt (OfDeref at (get_value e q w m) is),
-         (λ q m is. put_value n q lt (closed (MayBe n q) (ReachesFunction at (get_value e q w m) is)), tt))
+    asks_right n (what.Paren e) c u at lt w = (
+      λ t m. put_value n t lt (closed (MayBe n t) (Wraps at (get_value e t w m))),
+      (λ t m. put_place n t lt (OfParen at (get_place e t w m)), tt),
+    )
+    asks_right n (what.Address e) c u at lt w = (
+      λ t m. put_value n t lt (closed (MayBe n t) (Addresses at (get_place e t w m))),
+      (λ q m is. put_value n q lt (closed (MayBe n q) (AddressesFunction at (get_value e q w m) is)), tt),
+    )
+    asks_right n (what.Deref e) c u at lt w = (
+      λ q m is. put_place n q lt (OfDeref at (get_value e q w m) is),
+      (λ q m is. put_value n q lt (closed (MayBe n q) (ReachesFunction at (get_value e q w m) is)), tt),
+    )
     asks_right n (what.Index a) c u at lt w = (λ q m is. put_place n q lt (OfIndex at (get_value a q w m) is), tt)
     asks_right n (what.Member e k) c u at lt w = (λ q m r is. put_place n r lt (OfMember at (get_place e q w m) is), tt)
     asks_right n (what.Arrow e k) c u at lt w = (λ q m r is. put_place n r lt (OfArrow at (get_value e q w m) is), tt)
     asks_right n (what.Assign l r) c u at lt w =
         (λ t m. put_value n t lt (closed (MayBe n t) (Assigns at (get_value r t w.1 m))), stores_right n l r c u at w.0 w.1)
     asks_right n (what.Offset e) c u at lt w = (λ t m. put_value n t lt (closed (MayBe n t) (Moves at (get_value e t w m))), tt)
-    asks_right n (what.Cond a b) c u at lt w =
-        (λ t m. put_value n t lt (closed (MayBe n t) (First at (get_value a t w.0 m))),
-         (λ t m. put_value n t lt (closed (MayBe n t) (Second at (get_value b t w.1 m))), tt))
+    asks_right n (what.Cond a b) c u at lt w = (
+      λ t m. put_value n t lt (closed (MayBe n t) (First at (get_value a t w.0 m))),
+      (λ t m. put_value n t lt (closed (MayBe n t) (Second at (get_value b t w.1 m))), tt),
+    )
     asks_right n (what.Comma b) c u at lt w = (λ t m. put_value n t lt (closed (MayBe n t) (GoesOn at (get_value b t w m))), tt)
-    asks_right n (what.Call f args) c u at lt w =
-        (λ q called i t is m. let r = get_result i t (within.functions q i is) m in put_value n t lt (closed (MayBe n t) (Returns r.0 at (get_value f q w.0 called) is r.4 r.5)),
-         passes_right n f c u args at w.0 (part_list P.lists args) 0 (λ k a is. (w.1 k a is, subst (λ i. slice_get (part_list P.lists args) i ≡ Some a) (omega arith) is)))
+    asks_right n (what.Call f args) c u at lt w = (
+      λ q called i t is m. let r = get_result i t (within.functions q i is) m in put_value n t lt (closed (MayBe n t) (Returns r.0 at (get_value f q w.0 called) is r.4 r.5)),
+      passes_right n f c u args at w.0 (part_list P.lists args) 0 (λ k a is. (w.1 k a is, subst (λ i. slice_get (part_list P.lists args) i ≡ Some a) (omega arith) is)),
+    )
     asks_right n (what.Return i e) c u at lt w = (λ t m. put_result i t w.0 (n, e, c, u, at, get_value e t w.1 m), tt)
     asks_right n (what.Init s e) c u at lt w = (λ t m. put_slot s t w.0 (closed (MayHold s t) (Begins n at (get_value e t w.1 m))), tt)
     asks_right n what.Other c u at lt w = tt

@@ -100,9 +100,9 @@ watch_cases (Has h t) table k v lt is = inl is
 watch_cases (Joins g h) table k v lt is = inl is
 watch_cases (Watches h w) table k v lt is = ⊎_elim
     (λ e. ⊎_elim
-      (λ old. inl (subst (λ i. Contains (row_of table i) v) (sym e) old))
-      (λ f. inr (ap (λ i. Watches i w) (sym e) ∙ ap (Watches k) f))
-      (Contains-push_cases (row_of table h) w v (subst (λ xs. Contains xs v) (put_same table h w (omega (arith, lt, e))) (subst (λ i. Contains (row_of (put h w table) i) v) e is))))
+    (λ old. inl (subst (λ i. Contains (row_of table i) v) (sym e) old))
+    (λ f. inr (ap (λ i. Watches i w) (sym e) ∙ ap (Watches k) f))
+    (Contains-push_cases (row_of table h) w v (subst (λ xs. Contains xs v) (put_same table h w (omega (arith, lt, e))) (subst (λ i. Contains (row_of (put h w table) i) v) e is))))
     (λ ne. inl (subst (λ xs. Contains xs v) (put_other table h k w ne) is))
     (cases_eq k h)
 

@@ -7,8 +7,8 @@ ghost use Rattle.cc_points_solve.specs.Solving.{IsProblem};
 
 use crate::problem::{given, joins, table};
 use crate::watching::Watching;
-use cc_points_base::{Layout, View, Watch, constraints, lay_out};
 use cc_blocks::Rows;
+use cc_points_base::{Layout, View, Watch, constraints, lay_out};
 use cc_solver::{Edge, Limits, Pair, Stop, solve};
 use sqlite_items::Items;
 use std::alloc::{AllocError, Global};
@@ -45,12 +45,7 @@ fn make_problem(alloc: Global, view: &View) -> Result<Problem, AllocError>
 }
 
 /// The facts of a view, as pairs of the holders of values and slots, with others.
-pub fn solve_view(
-    alloc: Global,
-    view: &View,
-    most: u64,
-    room: u64,
-) -> Result<Rows, Stop>
+pub fn solve_view(alloc: Global, view: &View, most: u64, room: u64) -> Result<Rows, Stop>
     requires nodes { length view.now.nodes < 2 ^ 30 }
     requires lists { length view.now.lists < 2 ^ 30 }
     requires small { IsSmall (layout_of view.now) }

@@ -144,12 +144,7 @@ fn add_edges(
     Ok(())
 }
 
-fn add_pairs(
-    out: &mut Vec<Pair>,
-    view: &View,
-    row: &[Watch],
-    target: u32,
-) -> Result<(), AllocError>
+fn add_pairs(out: &mut Vec<Pair>, view: &View, row: &[Watch], target: u32) -> Result<(), AllocError>
     ensures { OnOk result (out.new.items ≡ spec.pairs_by view.now row.now target out.old.items) }
 {
     for watch in row {

@@ -192,8 +192,8 @@ module _ (p : Program) (parts : Parts) (T : Tables) (e_functions : length T.func
       let seen = with_seen p parts T (all_around p) (length xs) (length p.functions) (all_standings p parts) xs 0 (length p.variables) [] in
       let long : length xs ≤ length V.nodes = omega (arith, seen_long p parts T (all_around p) (length xs) (length p.functions) (all_standings p parts) xs 0 (length p.variables) [], inits_long parts (all_standings p parts) xs 0 seen) in
       let first : Every (λ s. IsSeenWithin V s.what) seen =
-          subst (λ k. Every (λ s. IsSeenWithin V s.what) (with_seen p parts T (all_around p) (length xs) k (all_standings p parts) xs 0 (length p.variables) [])) e_functions
-            (all_good V (length xs) long p parts T (all_around p) (all_standings p parts) refl xs 0 (length p.variables) [] (λ n x at. absurd (let e = at in cc))) in
+      subst (λ k. Every (λ s. IsSeenWithin V s.what) (with_seen p parts T (all_around p) (length xs) k (all_standings p parts) xs 0 (length p.variables) [])) e_functions
+      (all_good V (length xs) long p parts T (all_around p) (all_standings p parts) refl xs 0 (length p.variables) [] (λ n x at. absurd (let e = at in cc))) in
       record {
         nodes = inits_good V (length xs) long (all_standings p parts) xs 0 seen (omega arith) first;
         slots = slot_within V;

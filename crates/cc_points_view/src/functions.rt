@@ -40,7 +40,11 @@ fn put_bodies(bodies: &mut Slots<Option<u32>>, functions: &[Function])
 }
 
 /// For each node the function whose body it is. Fails where memory is wanting.
-pub fn bodies_of(alloc: Global, functions: &[Function], nodes: u32) -> Result<Slots<Option<u32>>, Memory>
+pub fn bodies_of(
+    alloc: Global,
+    functions: &[Function],
+    nodes: u32,
+) -> Result<Slots<Option<u32>>, Memory>
     requires { length functions.now < 2 ^ 32 }
     ensures { IfOk result (λ bodies. bodies ≡ spec.bodies_of functions.now nodes) }
 {
@@ -69,7 +73,12 @@ fn put_formals(lists: &mut Slots<u32>, parts: &Parts, formals: &[VarId]) -> Resu
     Ok(())
 }
 
-fn put_callee(tables: &mut Tables, parts: &Parts, formals: &[VarId], is_defined: bool) -> Result<(), Memory>
+fn put_callee(
+    tables: &mut Tables,
+    parts: &Parts,
+    formals: &[VarId],
+    is_defined: bool,
+) -> Result<(), Memory>
     ensures { OnOk result (tables.new ≡ spec.with_callee parts.now formals.now is_defined tables.old) }
 {
     let start = tables.lists.count()?;
@@ -88,7 +97,11 @@ fn is_defined(kind: FunctionKind) -> bool
 }
 
 /// Puts the functions at the end, each with its formals. Fails where memory is wanting.
-pub fn put_functions(tables: &mut Tables, parts: &Parts, functions: &[Function]) -> Result<(), Memory>
+pub fn put_functions(
+    tables: &mut Tables,
+    parts: &Parts,
+    functions: &[Function],
+) -> Result<(), Memory>
     ensures { OnOk result (tables.new ≡ spec.with_functions parts.now functions.now tables.old) }
 {
     for function in functions {

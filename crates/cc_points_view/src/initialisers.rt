@@ -22,7 +22,11 @@ fn pointer_cell(parts: &Parts, node: Node, standing: Option<Standing>) -> Option
     match standing {
         Some(standing) => match standing.cell {
             Some(q) => {
-                if standing.is_evaluated && !is_braces(node) && q < parts.count() && parts.is_pointer(q) {
+                if standing.is_evaluated
+                    && !is_braces(node)
+                    && q < parts.count()
+                    && parts.is_pointer(q)
+                {
                     Some(q)
                 } else {
                     None
@@ -66,7 +70,11 @@ pub fn put_initialisers(
 {
     let mut n: u32 = 0;
     for x in placed {
-        put_cell(nodes, pointer_cell(parts, x.node, standing_at(standings, n)), n)?;
+        put_cell(
+            nodes,
+            pointer_cell(parts, x.node, standing_at(standings, n)),
+            n,
+        )?;
         n += 1;
     }
     Ok(())

@@ -55,7 +55,12 @@ fn is_within(count: u32, functions: u32, lists: &[u32], what: What) -> bool
     ensures { result ≡ spec.is_within count functions lists.now what }
 {
     match what {
-        What::Paren(e) | What::Address(e) | What::Deref(e) | What::Index(e) | What::Offset(e) | What::Comma(e) => e < count,
+        What::Paren(e)
+        | What::Address(e)
+        | What::Deref(e)
+        | What::Index(e)
+        | What::Offset(e)
+        | What::Comma(e) => e < count,
         What::Member(e, _) | What::Arrow(e, _) => e < count,
         What::Assign(a, b) | What::Cond(a, b) => a < count && b < count,
         What::Call(f, args) => f < count && all_below(count, stretch(lists, args)),
@@ -140,10 +145,7 @@ fn seen_at(known: &Known, n: u32, object: u32, node: Node, standing: Standing) -
         node,
         standing.function,
     );
-    let class = class_of(
-        known.tables.paths.as_slice(),
-        known.program.type_of(n),
-    );
+    let class = class_of(known.tables.paths.as_slice(), known.program.type_of(n));
     let is_value = is_value(around_at(known.around, n));
     let seen = seen_of(known.parts, standing, is_value, what, class);
     guarded(
@@ -176,7 +178,12 @@ fn unseen() -> Seen
 }
 
 // Puts what the rules see of these nodes at the end; `first` is the number of the first literal among the objects.
-fn put_seen(nodes: &mut Slots<Seen>, known: &Known, first: u32, placed: &[Placed]) -> Result<(), Memory>
+fn put_seen(
+    nodes: &mut Slots<Seen>,
+    known: &Known,
+    first: u32,
+    placed: &[Placed],
+) -> Result<(), Memory>
     requires { length placed.now < 2 ^ 32 }
     ensures { OnOk result (nodes.new ≡ spec.with_seen known.now.program.now known.now.parts.now known.now.tables.now
         known.now.around.now known.now.count known.now.functions known.now.standings.now placed.now 0 first nodes.old) }
@@ -228,7 +235,12 @@ fn small(count: usize) -> Result<u32, Memory>
 }
 
 // What the rules see of all nodes, and after them the initialisers.
-fn nodes_of(alloc: Global, program: &Program, parts: &Parts, tables: &Tables) -> Result<Slots<Seen>, Memory>
+fn nodes_of(
+    alloc: Global,
+    program: &Program,
+    parts: &Parts,
+    tables: &Tables,
+) -> Result<Slots<Seen>, Memory>
     ensures { IfOk result (λ nodes. nodes ≡ spec.nodes_of program.now parts.now tables.now) }
 {
     let placed = program.arena.nodes.as_slice();

@@ -36,7 +36,11 @@ fn first_parts(parts: &[Part], size: u32) -> &[Part]
     ensures few { length result.now < 2 ^ 32 }
 {
     let size = size as usize;
-    if size <= parts.len() { &parts[..size] } else { &[] }
+    if size <= parts.len() {
+        &parts[..size]
+    } else {
+        &[]
+    }
 }
 
 // Whether the pointers of a struct type are known.

@@ -18,7 +18,8 @@ fn points(kind: Option<ExprType>) -> bool
 {
     match kind {
         Some(ExprType::Address(_)) => true,
-        Some(ExprType::Plain(Shape::Pointer(_, _))) | Some(ExprType::Plain(Shape::Array(_, _, _))) => true,
+        Some(ExprType::Plain(Shape::Pointer(_, _)))
+        | Some(ExprType::Plain(Shape::Array(_, _, _))) => true,
         _ => false,
     }
 }
@@ -152,7 +153,14 @@ fn returned(function: Option<u32>, e: Option<u32>) -> What
 
 /// What the rules see of the node `n` that is evaluated and stands in this function. If it is a string literal, `literal` is
 /// its whole object.
-pub fn what_of(program: &Program, parts: &Parts, literal: u32, n: u32, node: Node, function: Option<u32>) -> What
+pub fn what_of(
+    program: &Program,
+    parts: &Parts,
+    literal: u32,
+    n: u32,
+    node: Node,
+    function: Option<u32>,
+) -> What
     ensures { result ≡ spec.what_of program.now parts.now literal n node function }
 {
     match node {
@@ -179,7 +187,8 @@ fn is_lvalue(what: What) -> bool
     ensures { result ≡ spec.is_lvalue what }
 {
     match what {
-        What::Name(_) | What::Deref(_) | What::Index(_) | What::Member(_, _) | What::Arrow(_, _) => true,
+        What::Name(_) | What::Deref(_) | What::Index(_) | What::Member(_, _) | What::Arrow(_, _) =>
+            true,
         _ => false,
     }
 }

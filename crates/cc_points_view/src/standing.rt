@@ -81,13 +81,7 @@ fn function_in(bodies: &[Option<u32>], above: Node, n: u32, own: Option<u32>) ->
     ensures { result ≡ spec.function_in bodies.now above n own }
 {
     match above {
-        Node::Definition(_, block) => {
-            if block == n {
-                body_at(bodies, n)
-            } else {
-                None
-            }
-        }
+        Node::Definition(_, block) => { if block == n { body_at(bodies, n) } else { None } }
         _ => own,
     }
 }
@@ -140,7 +134,14 @@ fn braced(parts: &Parts, items: &[u32], n: u32, cell: u32) -> Option<u32>
 }
 
 // The part that the node `n` initialises.
-fn cell_in(program: &Program, parts: &Parts, above: Node, up: u32, n: u32, own: Option<u32>) -> Option<u32>
+fn cell_in(
+    program: &Program,
+    parts: &Parts,
+    above: Node,
+    up: u32,
+    n: u32,
+    own: Option<u32>,
+) -> Option<u32>
     ensures { result ≡ spec.cell_in program.now parts.now above up n own }
 {
     match above {

@@ -46,16 +46,16 @@ told_in rows rows' k to added lt others count =
 -- a holder that doesn't count got some
 pub told_out : (rows rows' : List Row) (k to : ℕ) → k ≤ to → ((h t : ℕ) → h ≢ to → pair_bit rows' h t ≡ pair_bit rows h t) → pair_count (take k rows') ≡ pair_count (take k rows)
 told_out rows rows' k to le others = same_count (take k rows') (take k rows) (λ h t. elim (cases_lt h k) [
-    | inl lt ↦ in_first rows' k h t lt ∙ others h t (λ e. omega arith) ∙ sym (in_first rows k h t lt)
-    | inr ge ↦ past_first rows' k h t ge ∙ sym (past_first rows k h t ge)
-  ])
+  | inl lt ↦ in_first rows' k h t lt ∙ others h t (λ e. omega arith) ∙ sym (in_first rows k h t lt)
+  | inr ge ↦ past_first rows' k h t ge ∙ sym (past_first rows k h t ge)
+])
 
 -- a pair of the first holders
 pub is_first : (rows : List Row) (k h t : ℕ) → pair_bit (take k rows) h t ≡ 1 → (h < k) × (pair_bit rows h t ≡ 1)
 is_first rows k h t is = elim (cases_lt h k) [
-    | inl lt ↦ (lt, sym (in_first rows k h t lt) ∙ is)
-    | inr ge ↦ absurd (let z = past_first rows k h t ge in omega arith)
-  ]
+  | inl lt ↦ (lt, sym (in_first rows k h t lt) ∙ is)
+  | inr ge ↦ absurd (let z = past_first rows k h t ge in omega arith)
+]
 
 pub first_is : (rows : List Row) (k h t : ℕ) → h < k → pair_bit rows h t ≡ 1 → pair_bit (take k rows) h t ≡ 1
 first_is rows k h t lt is = in_first rows k h t lt ∙ is

@@ -25,50 +25,50 @@ pub record IsGiven (pairs pairs' fresh fresh' : List Row) (to : ℕ) (src : ℕ 
 module _ (pairs pairs' fresh fresh' : List Row) (to : ℕ) (src : ℕ → ℕ) (added : ℕ) (g : IsGiven pairs pairs' fresh fresh' to src added) where
   pub kept : (h t : ℕ) → pair_bit pairs h t ≡ 1 → pair_bit pairs' h t ≡ 1
   kept h t is = elim (cases_eq h to) [
-      | inl e ↦ (let is' : pair_bit pairs to t ≡ 1 = ap (λ x. pair_bit pairs x t) (sym e) ∙ is in ap (λ x. pair_bit pairs' x t) e ∙ omega (arith, g.at t, g.bits t))
-      | inr ne ↦ g.others h t ne ∙ is
-    ]
+    | inl e ↦ (let is' : pair_bit pairs to t ≡ 1 = ap (λ x. pair_bit pairs x t) (sym e) ∙ is in ap (λ x. pair_bit pairs' x t) e ∙ omega (arith, g.at t, g.bits t))
+    | inr ne ↦ g.others h t ne ∙ is
+  ]
 
   pub got : (t : ℕ) → src t ≡ 1 → pair_bit pairs' to t ≡ 1
   got t is = omega (arith, g.at t, pair_bit-lt pairs to t)
 
   pub only : (h t : ℕ) → pair_bit pairs' h t ≡ 1 → (pair_bit pairs h t ≡ 1) ⊎ ((h ≡ to) × (src t ≡ 1))
   only h t is = elim (cases_eq h to) [
-      | inl e ↦ (let is' : pair_bit pairs' to t ≡ 1 = ap (λ x. pair_bit pairs' x t) (sym e) ∙ is in
-          elim (cases_eq (src t) 1) [
-            | inl one ↦ inr (e, one)
-            | inr ne ↦ inl (ap (λ x. pair_bit pairs x t) e ∙ omega (arith, g.at t, g.bits t))
-          ])
-      | inr ne ↦ inl (sym (g.others h t ne) ∙ is)
-    ]
+    | inl e ↦ (let is' : pair_bit pairs' to t ≡ 1 = ap (λ x. pair_bit pairs' x t) (sym e) ∙ is in
+        elim (cases_eq (src t) 1) [
+          | inl one ↦ inr (e, one)
+          | inr ne ↦ inl (ap (λ x. pair_bit pairs x t) e ∙ omega (arith, g.at t, g.bits t))
+        ])
+    | inr ne ↦ inl (sym (g.others h t ne) ∙ is)
+  ]
 
   pub news : (h t : ℕ) → pair_bit pairs' h t ≡ 1 → (pair_bit pairs h t ≡ 1) ⊎ (pair_bit fresh' h t ≡ 1)
   news h t is = elim (cases_eq h to) [
-      | inl e ↦ (let is' : pair_bit pairs' to t ≡ 1 = ap (λ x. pair_bit pairs' x t) (sym e) ∙ is in
-          elim (cases_eq (pair_bit pairs to t) 1) [
-            | inl one ↦ inl (ap (λ x. pair_bit pairs x t) e ∙ one)
-            | inr ne ↦ inr (ap (λ x. pair_bit fresh' x t) e ∙ omega (arith, g.at t, g.bits t, g.fresh_at t, pair_bit-lt pairs to t, pair_bit-lt fresh to t))
-          ])
-      | inr ne ↦ inl (sym (g.others h t ne) ∙ is)
-    ]
+    | inl e ↦ (let is' : pair_bit pairs' to t ≡ 1 = ap (λ x. pair_bit pairs' x t) (sym e) ∙ is in
+        elim (cases_eq (pair_bit pairs to t) 1) [
+          | inl one ↦ inl (ap (λ x. pair_bit pairs x t) e ∙ one)
+          | inr ne ↦ inr (ap (λ x. pair_bit fresh' x t) e ∙ omega (arith, g.at t, g.bits t, g.fresh_at t, pair_bit-lt pairs to t, pair_bit-lt fresh to t))
+        ])
+    | inr ne ↦ inl (sym (g.others h t ne) ∙ is)
+  ]
 
   pub fresh_kept : (h t : ℕ) → pair_bit fresh h t ≡ 1 → pair_bit fresh' h t ≡ 1
   fresh_kept h t is = elim (cases_eq h to) [
-      | inl e ↦ (let is' : pair_bit fresh to t ≡ 1 = ap (λ x. pair_bit fresh x t) (sym e) ∙ is in ap (λ x. pair_bit fresh' x t) e ∙ omega (arith, g.fresh_at t, g.bits t))
-      | inr ne ↦ g.fresh_others h t ne ∙ is
-    ]
+    | inl e ↦ (let is' : pair_bit fresh to t ≡ 1 = ap (λ x. pair_bit fresh x t) (sym e) ∙ is in ap (λ x. pair_bit fresh' x t) e ∙ omega (arith, g.fresh_at t, g.bits t))
+    | inr ne ↦ g.fresh_others h t ne ∙ is
+  ]
 
   pub fresh_only : (h t : ℕ) → pair_bit fresh' h t ≡ 1 → (pair_bit fresh h t ≡ 1) ⊎ ((h ≡ to) × (0 < added) × (pair_bit pairs' h t ≡ 1))
   fresh_only h t is = elim (cases_eq h to) [
-      | inl e ↦ (let is' : pair_bit fresh' to t ≡ 1 = ap (λ x. pair_bit fresh' x t) (sym e) ∙ is in
-          elim (cases_eq (pair_bit fresh to t) 1) [
-            | inl one ↦ inl (ap (λ x. pair_bit fresh x t) e ∙ one)
-            | inr ne ↦
-                (let source : (src t ≡ 1) × (pair_bit pairs to t ≡ 0) = (omega (arith, g.fresh_at t, g.bits t, pair_bit-lt fresh to t), omega (arith, g.fresh_at t, g.bits t, pair_bit-lt fresh to t)) in
-                inr (e, elim (cases_eq added 0) [ inl z ↦ absurd (let le = g.none z t in let a = source.0 in let b = source.1 in omega arith) | inr nz ↦ omega arith ], ap (λ x. pair_bit pairs' x t) e ∙ got t source.0))
-          ])
-      | inr ne ↦ inl (sym (g.fresh_others h t ne) ∙ is)
-    ]
+    | inl e ↦ (let is' : pair_bit fresh' to t ≡ 1 = ap (λ x. pair_bit fresh' x t) (sym e) ∙ is in
+        elim (cases_eq (pair_bit fresh to t) 1) [
+          | inl one ↦ inl (ap (λ x. pair_bit fresh x t) e ∙ one)
+          | inr ne ↦
+              (let source : (src t ≡ 1) × (pair_bit pairs to t ≡ 0) = (omega (arith, g.fresh_at t, g.bits t, pair_bit-lt fresh to t), omega (arith, g.fresh_at t, g.bits t, pair_bit-lt fresh to t)) in
+              inr (e, elim (cases_eq added 0) [ inl z ↦ absurd (let le = g.none z t in let a = source.0 in let b = source.1 in omega arith) | inr nz ↦ omega arith ], ap (λ x. pair_bit pairs' x t) e ∙ got t source.0))
+        ])
+    | inr ne ↦ inl (sym (g.fresh_others h t ne) ∙ is)
+  ]
 
 module _ (limits : Limits) (to added : ℕ) (s s' : State) (p' f' : List Row) (src : ℕ → ℕ) (g : IsGiven s.pairs.rows.items p' s.fresh.rows.items f' to src added)
     (e_p : s'.pairs.rows.items ≡ p') (e_f : s'.fresh.rows.items ≡ f') (e_e : s'.edges.rows.items ≡ s.edges.rows.items) (old : IsState limits s) (lt : to < length s.pairs.rows.items) where

@@ -10,21 +10,21 @@ use Rattle.cc_solver.specs.Solving.{Has, IsState, Grows, Links}
 module _ (old new : Rows) (from to : ℕ) (at : pair_bit new.rows.items from to ≡ 1) (others : (h t : ℕ) → (h ≡ from → t ≢ to) → pair_bit new.rows.items h t ≡ pair_bit old.rows.items h t) where
   pub edges_kept : (g h : ℕ) → Has old g h → Has new g h
   edges_kept g h is = elim (cases_eq g from) [
-      | inl e ↦ elim (cases_eq h to) [
-        | inl f ↦ ap (λ x. pair_bit new.rows.items x h) e ∙ ap (pair_bit new.rows.items from) f ∙ at
-        | inr ne ↦ others g h (λ _. ne) ∙ is
-      ]
-      | inr ne ↦ others g h (λ e. absurd (ne e)) ∙ is
+    | inl e ↦ elim (cases_eq h to) [
+      | inl f ↦ ap (λ x. pair_bit new.rows.items x h) e ∙ ap (pair_bit new.rows.items from) f ∙ at
+      | inr ne ↦ others g h (λ _. ne) ∙ is
     ]
+    | inr ne ↦ others g h (λ e. absurd (ne e)) ∙ is
+  ]
 
   pub edges_only : (g h : ℕ) → Has new g h → Has old g h ⊎ ((g ≡ from) × (h ≡ to))
   edges_only g h is = elim (cases_eq g from) [
-      | inl e ↦ elim (cases_eq h to) [
-        | inl f ↦ inr (e, f)
-        | inr ne ↦ inl (sym (others g h (λ _. ne)) ∙ is)
-      ]
-      | inr ne ↦ inl (sym (others g h (λ e. absurd (ne e))) ∙ is)
+    | inl e ↦ elim (cases_eq h to) [
+      | inl f ↦ inr (e, f)
+      | inr ne ↦ inl (sym (others g h (λ _. ne)) ∙ is)
     ]
+    | inr ne ↦ inl (sym (others g h (λ e. absurd (ne e))) ∙ is)
+  ]
 
 module _ (limits : Limits) (s : State) (edges : Rows) (from to : ℕ) (at : pair_bit edges.rows.items from to ≡ 1) (others : (h t : ℕ) → (h ≡ from → t ≢ to) → pair_bit edges.rows.items h t ≡ pair_bit s.edges.rows.items h t)
     (long : length edges.rows.items ≡ length s.edges.rows.items) (old : IsState limits s) (to_within : to < length s.pairs.rows.items) where

@@ -31,19 +31,19 @@ module _ (given : List Pair) (joins : List Edge) (Adds Gives : ℕ → ℕ → �
         (l.edges_only x y is);
     handled = λ p q is. ⊎_elim
         (λ old. ⊎_elim
-          (λ f. inl (l.grows.fresh_kept p q f))
-          (λ r. inr (⊎_elim (λ o. inl o) (λ all. inr (λ x y a. l.edges_kept x y (all.0 x y a), λ x y a. l.grows.kept x y (all.1 x y a))) r))
-          (v.handled p q old))
+        (λ f. inl (l.grows.fresh_kept p q f))
+        (λ r. inr (⊎_elim (λ o. inl o) (λ all. inr (λ x y a. l.edges_kept x y (all.0 x y a), λ x y a. l.grows.kept x y (all.1 x y a))) r))
+        (v.handled p q old))
         (λ new. inl new)
         (l.grows.news p q is);
     flowed = λ x y t edge is. ⊎_elim
         (λ old. ⊎_elim
-          (λ before. flow_old x y t before old)
-          (λ n. ⊎_elim
-            (λ before. flow_old x y t (ap (λ a. pair_bit s.edges.rows.items a y) n.0 ∙ ap (pair_bit s.edges.rows.items g) n.1 ∙ before) old)
-            (λ got. inr (inr (ap (λ a. pair_bit s'.pairs.rows.items a t) n.1 ∙ got t (ap (λ a. pair_bit s.pairs.rows.items a t) (sym n.0) ∙ old))))
-            l.got)
-          (l.edges_only x y edge))
+        (λ before. flow_old x y t before old)
+        (λ n. ⊎_elim
+        (λ before. flow_old x y t (ap (λ a. pair_bit s.edges.rows.items a y) n.0 ∙ ap (pair_bit s.edges.rows.items g) n.1 ∙ before) old)
+        (λ got. inr (inr (ap (λ a. pair_bit s'.pairs.rows.items a t) n.1 ∙ got t (ap (λ a. pair_bit s.pairs.rows.items a t) (sym n.0) ∙ old))))
+        l.got)
+        (l.edges_only x y edge))
         (λ new. inl new)
         (l.grows.news x t is);
   }
@@ -63,16 +63,16 @@ module _ (given : List Pair) (joins : List Edge) (Adds Gives : ℕ → ℕ → �
     sound_edge = λ x y is. v.sound_edge x y (ap (λ xs. pair_bit xs x y) (sym same) ∙ is);
     handled = λ p q is. ⊎_elim
         (λ old. ⊎_elim
-          (λ f. inl (l.fresh_kept p q f))
-          (λ r. inr (⊎_elim (λ o. inl o) (λ all. inr (λ x y a. ap (λ xs. pair_bit xs x y) same ∙ all.0 x y a, λ x y a. l.kept x y (all.1 x y a))) r))
-          (v.handled p q old))
+        (λ f. inl (l.fresh_kept p q f))
+        (λ r. inr (⊎_elim (λ o. inl o) (λ all. inr (λ x y a. ap (λ xs. pair_bit xs x y) same ∙ all.0 x y a, λ x y a. l.kept x y (all.1 x y a))) r))
+        (v.handled p q old))
         (λ new. inl new)
         (l.news p q is);
     flowed = λ x y t edge is. ⊎_elim
         (λ old. ⊎_elim
-          (λ f. inl (l.fresh_kept x t f))
-          (λ r. inr (⊎_elim (λ o. inl o) (λ p. inr (l.kept y t p)) r))
-          (v.flowed x y t (ap (λ xs. pair_bit xs x y) (sym same) ∙ edge) old))
+        (λ f. inl (l.fresh_kept x t f))
+        (λ r. inr (⊎_elim (λ o. inl o) (λ p. inr (l.kept y t p)) r))
+        (v.flowed x y t (ap (λ xs. pair_bit xs x y) (sym same) ∙ edge) old))
         (λ new. inl new)
         (l.news x t is);
   }
@@ -137,16 +137,16 @@ module _ (given : List Pair) (joins : List Edge) (Adds Gives : ℕ → ℕ → �
 -- what is due next
 pub due_first : (r : Option ℕ) (cells : List Cell) (k : ℕ) → IfSome r (λ first. (0 ≤ first) × (row_bit cells first ≡ 1) × ((t : ℕ) → 0 ≤ t → t < first → row_bit cells t ≡ 0)) → IfNone r ((t : ℕ) → 0 ≤ t → row_bit cells t ≡ 0) → In cells k → IsDue r k
 due_first (Some x) cells k s n is = elim (cases_lt k x) [
-    | inl lt ↦ absurd (let z = s.2 k (omega arith) lt in omega arith)
-    | inr ge ↦ ge
-  ]
+  | inl lt ↦ absurd (let z = s.2 k (omega arith) lt in omega arith)
+  | inr ge ↦ ge
+]
 due_first None cells k s n is = let z = n k (omega arith) in omega arith
 
 pub due_on : (r : Option ℕ) (cells : List Cell) (x k : ℕ) → IfSome r (λ next. (x < next) × (row_bit cells next ≡ 1) × ((t : ℕ) → x < t → t < next → row_bit cells t ≡ 0)) → IfNone r ((t : ℕ) → x < t → row_bit cells t ≡ 0) → In cells k → x < k → IsDue r k
 due_on (Some y) cells x k s n is lt = elim (cases_lt k y) [
-    | inl before ↦ absurd (let z = s.2 k lt before in omega arith)
-    | inr ge ↦ ge
-  ]
+  | inl before ↦ absurd (let z = s.2 k lt before in omega arith)
+  | inr ge ↦ ge
+]
 due_on None cells x k s n is lt = let z = n k lt in omega arith
 
 pub keeps_refl : (s : State) → Keeps s s
@@ -229,19 +229,19 @@ module _ (given : List Pair) (joins : List Edge) (Adds Gives : ℕ → ℕ → �
     sound_edge = λ g h is. v.sound_edge g h (back g h is);
     handled = λ x y is. ⊎_elim
         (λ old. ⊎_elim
-          (λ f. inl (p.fresh_kept x y f))
-          (λ r. inr (⊎_elim inl (λ all. inr (λ g h a. k.edges g h (all.0 g h a), λ h t a. k.pairs h t (all.1 h t a))) r))
-          (v.handled x y old))
+        (λ f. inl (p.fresh_kept x y f))
+        (λ r. inr (⊎_elim inl (λ all. inr (λ g h a. k.edges g h (all.0 g h a), λ h t a. k.pairs h t (all.1 h t a))) r))
+        (v.handled x y old))
         inl
         (p.news x y is);
     flowed = λ g h t edge is. ⊎_elim
         (λ old. ⊎_elim
-          (λ f. inl (p.fresh_kept g t f))
-          (λ r. inr (inr (⊎_elim
-            (λ lag. p.got h t (ap (λ x. pair_bit s.edges.rows.items x h) (sym lag.0) ∙ back g h edge) lag.1)
-            (k.pairs h t)
-            r)))
-          (v.flowed g h t (back g h edge) old))
+        (λ f. inl (p.fresh_kept g t f))
+        (λ r. inr (inr (⊎_elim
+        (λ lag. p.got h t (ap (λ x. pair_bit s.edges.rows.items x h) (sym lag.0) ∙ back g h edge) lag.1)
+        (k.pairs h t)
+        r)))
+        (v.flowed g h t (back g h edge) old))
         inl
         (p.news g t is);
   }

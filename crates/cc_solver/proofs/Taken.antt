@@ -25,9 +25,9 @@ module _ (limits : Limits) (s : State) (fresh : Rows) (w : State) (holder : ℕ)
     (others : (h t : ℕ) → h ≢ holder → pair_bit fresh.rows.items h t ≡ pair_bit s.fresh.rows.items h t) where
   was_fresh : (h t : ℕ) → Has fresh h t → (h ≡ holder → ⊥) × Has s.fresh h t
   was_fresh h t is = elim (cases_eq h holder) [
-      | inl e ↦ absurd (let z = ap (λ x. pair_bit fresh.rows.items x t) e ∙ at t in omega arith)
-      | inr ne ↦ (ne, sym (others h t ne) ∙ is)
-    ]
+    | inl e ↦ absurd (let z = ap (λ x. pair_bit fresh.rows.items x t) e ∙ at t in omega arith)
+    | inr ne ↦ (ne, sym (others h t ne) ∙ is)
+  ]
 
   pub taken_state : IsState limits (record s { fresh = fresh; work = w.work })
   taken_state = record {

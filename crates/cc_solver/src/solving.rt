@@ -11,8 +11,7 @@ ghost use Rattle.cc_solver.specs.Solving.{Has, In, IsState, Told, told_of, HasEd
 
 use crate::rules::{Edge, Pair, Rules};
 use crate::state::{Limits, State, Stop};
-use cc_blocks::Row;
-use cc_blocks::Rows;
+use cc_blocks::{Row, Rows};
 use std::alloc::{AllocError, Global};
 use std::collections::VecDeque;
 
@@ -103,7 +102,13 @@ fn flow(state: &mut State, alloc: Global, from: u32, to: u32, limits: Limits) ->
 }
 
 // Adds an edge.
-fn add_edge(state: &mut State, alloc: Global, from: u32, to: u32, limits: Limits) -> Result<(), Stop>
+fn add_edge(
+    state: &mut State,
+    alloc: Global,
+    from: u32,
+    to: u32,
+    limits: Limits,
+) -> Result<(), Stop>
     requires limits { (limits.most ≤ 4294967296) × (limits.room ≤ 4294967296) }
     requires state { IsState limits state.old }
     requires from { from < length state.old.pairs.rows.items }
@@ -269,7 +274,13 @@ fn take_next(state: &mut State, alloc: Global, limits: Limits) -> Option<Step>
 }
 
 // The edges and pairs that are given.
-fn begin(alloc: Global, holders: u32, given: &[Pair], joins: &[Edge], limits: Limits) -> Result<State, Stop>
+fn begin(
+    alloc: Global,
+    holders: u32,
+    given: &[Pair],
+    joins: &[Edge],
+    limits: Limits,
+) -> Result<State, Stop>
     requires limits { (limits.most ≤ 4294967296) × (limits.room ≤ 4294967296) }
     requires given { (pair : Pair) → Contains given.now pair → pair.holder < holders }
     requires joins { (edge : Edge) → Contains joins.now edge → (edge.from < holders) × (edge.to < holders) }

@@ -21,8 +21,8 @@ pub returns : goal.returns
 returns c =
     let cells = c.args.cells.now in
     let absent : (d : Cell) → slice_get cells c.rank-at.result ≡ Some d → d.number ≢ c.args.number =
-        elim c.if-at-cells.branch [
-          | then-at-cells+else-cell-number w ↦ Edits.not_there cells c.args.number c.rank-at.result _ (slice_get-get_or cells c.rank-at.result w.index-cells-at.result w.if-at-cells.true) (rw w.index-cells-at.is at w.if-cell-number.false)
-          | else-at-cells w ↦ Edits.past_end cells c.args.number c.rank-at.result w.if-at-cells.false
-        ] in
+    elim c.if-at-cells.branch [
+      | then-at-cells+else-cell-number w ↦ Edits.not_there cells c.args.number c.rank-at.result _ (slice_get-get_or cells c.rank-at.result w.index-cells-at.result w.if-at-cells.true) (rw w.index-cells-at.is at w.if-cell-number.false)
+      | else-at-cells w ↦ Edits.past_end cells c.args.number c.rank-at.result w.if-at-cells.false
+    ] in
     λ t same. c.new.ensures (t % 512) ∙ sym (Ranks.row_bit-absent 0 cells c.args.number t c.requires same (λ d at. absent d (ap (slice_get cells) c.rank-at.ensures.rank ∙ at)))

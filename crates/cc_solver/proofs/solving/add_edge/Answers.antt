@@ -9,9 +9,9 @@ use Rattle.std.specs.Prelude.{◌↔◌, IsTrue}
 
 was_there : (rows : List Row) (from to : ℕ) (new : Bool) → IsTrue new ↔ (pair_bit rows from to ≡ 0) → new ≡ false → pair_bit rows from to ≡ 1
 was_there rows from to new is not = elim (cases_eq (pair_bit rows from to) 0) [
-    | inl e ↦ absurd (let t = is.1 e in let f = not in cc)
-    | inr ne ↦ omega (arith, pair_bit-lt rows from to)
-  ]
+  | inl e ↦ absurd (let t = is.1 e in let f = not in cc)
+  | inr ne ↦ omega (arith, pair_bit-lt rows from to)
+]
 
 pub flow-requires-clause-state : goal.flow-requires-clause-state
 flow-requires-clause-state c =

@@ -9,9 +9,9 @@ use Rattle.std.proofs.lemmas.Result.{err_from_is_err_and}
 row_only : (cells before : List Cell) (target : ℕ) → before ≡ [] → ((t : ℕ) → t ≢ target → row_bit cells t ≡ row_bit before t) → (t : ℕ) → In cells t → t ≡ target
 unfolding row_bit
 row_only cells before target none others t is = elim (cases_eq t target) [
-    | inl e ↦ e
-    | inr ne ↦ absurd (let z = others t ne ∙ ap (λ xs. row_bit xs t) none in omega arith)
-  ]
+  | inl e ↦ e
+  | inr ne ↦ absurd (let z = others t ne ∙ ap (λ xs. row_bit xs t) none in omega arith)
+]
 
 pub returns-clause-grows : goal.returns-clause-grows
 returns-clause-grows c =

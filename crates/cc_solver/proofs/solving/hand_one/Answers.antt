@@ -37,9 +37,9 @@ add_pair-requires-clause-holder g c =
     let pair : Pair = slice_index_or items i (record { holder = 0; target = 0 }) in
     let at = slice_get-get_or items i (record { holder = 0; target = 0 }) c.loop-pair-test.true in
     let gives : g.R.Rules.gives c.args.rules.now c.args.holder c.args.target pair.holder pair.target = ⊎_elim
-        (λ none. absurd (Contains_nil c.clear.new.self.items c.clear.ensures.items pair none))
-        (λ a. a)
-        ((c.in_ok-pairs.ensures pair).0 (subst (λ xs. Contains xs pair) c.deref-pair-items.ensures.value (contains_at items i pair at))) in
+    (λ none. absurd (Contains_nil c.clear.new.self.items c.clear.ensures.items pair none))
+    (λ a. a)
+    ((c.in_ok-pairs.ensures pair).0 (subst (λ xs. Contains xs pair) c.deref-pair-items.ensures.value (contains_at items i pair at))) in
     let within = c.requires.gives c.args.holder c.args.target pair.holder pair.target gives in
     omega (arith, within, c.loop-pair.invariant.keeps.same_length)
 
@@ -50,9 +50,9 @@ loop-pair-preserved g c =
     let pair : Pair = slice_index_or items i (record { holder = 0; target = 0 }) in
     let at = slice_get-get_or items i (record { holder = 0; target = 0 }) c.loop-pair-test.true in
     let gives : g.R.Rules.gives c.args.rules.now c.args.holder c.args.target pair.holder pair.target = ⊎_elim
-        (λ none. absurd (Contains_nil c.clear.new.self.items c.clear.ensures.items pair none))
-        (λ a. a)
-        ((c.in_ok-pairs.ensures pair).0 (subst (λ xs. Contains xs pair) c.deref-pair-items.ensures.value (contains_at items i pair at))) in
+    (λ none. absurd (Contains_nil c.clear.new.self.items c.clear.ensures.items pair none))
+    (λ a. a)
+    ((c.in_ok-pairs.ensures pair).0 (subst (λ xs. Contains xs pair) c.deref-pair-items.ensures.value (contains_at items i pair at))) in
     let e = c.in_ok-add_pair.ensures in
     record {
       state = e.state;
@@ -71,18 +71,18 @@ returns-in_err-add_pair-clause-many g c =
     let pair : Pair = slice_index_or items i (record { holder = 0; target = 0 }) in
     let at = slice_get-get_or items i (record { holder = 0; target = 0 }) c.loop-pair-test.true in
     let gives : g.R.Rules.gives c.args.rules.now c.args.holder c.args.target pair.holder pair.target = ⊎_elim
-        (λ none. absurd (Contains_nil c.clear.new.self.items c.clear.ensures.items pair none))
-        (λ a. a)
-        ((c.in_ok-pairs.ensures pair).0 (subst (λ xs. Contains xs pair) c.deref-pair-items.ensures.value (contains_at items i pair at))) in
+    (λ none. absurd (Contains_nil c.clear.new.self.items c.clear.ensures.items pair none))
+    (λ a. a)
+    ((c.in_ok-pairs.ensures pair).0 (subst (λ xs. Contains xs pair) c.deref-pair-items.ensures.value (contains_at items i pair at))) in
     λ is given joins h delta next v.
-        let now = c.loop-pair.invariant.on given joins h delta next v in
-        Solved.more_than given joins (g.R.Rules.adds c.args.rules.now) (g.R.Rules.gives c.args.rules.now) c.args.limits c.loop-pair.state c.add_pair.new.state pair.holder (λ t. t ≡ pair.target) now.sound
-        (λ t same. subst (Least given joins (g.R.Rules.adds c.args.rules.now) (g.R.Rules.gives c.args.rules.now) pair.holder) (sym same) (Hands (v.sound c.args.holder c.args.target c.requires.pair) gives))
-        (let p = err_from_is_err_and c.from_residual-in_err-add_pair.result c.from_residual-in_err-add_pair.ensures.1 in c.in_err-add_pair.ensures.many (ap Err (sym p.2) ∙ sym p.1 ∙ is))
+    let now = c.loop-pair.invariant.on given joins h delta next v in
+    Solved.more_than given joins (g.R.Rules.adds c.args.rules.now) (g.R.Rules.gives c.args.rules.now) c.args.limits c.loop-pair.state c.add_pair.new.state pair.holder (λ t. t ≡ pair.target) now.sound
+    (λ t same. subst (Least given joins (g.R.Rules.adds c.args.rules.now) (g.R.Rules.gives c.args.rules.now) pair.holder) (sym same) (Hands (v.sound c.args.holder c.args.target c.requires.pair) gives))
+    (let p = err_from_is_err_and c.from_residual-in_err-add_pair.result c.from_residual-in_err-add_pair.ensures.1 in c.in_err-add_pair.ensures.many (ap Err (sym p.2) ∙ sym p.1 ∙ is))
 
 pub returns-clause-all : goal.returns-clause-all
 returns-clause-all g c =
     let items = c.deref-pair-items.result.now in
     let whole : take c.loop-pair.pair-index items ≡ items = take_all c.loop-pair.pair-index items c.loop-pair-test.false in
     λ x y gives. c.loop-pair.invariant.all (record { holder = x; target = y })
-        (subst (λ xs. Contains xs (record { holder = x; target = y })) (sym whole) (subst (λ xs. Contains xs (record { holder = x; target = y })) (sym c.deref-pair-items.ensures.value) ((c.in_ok-pairs.ensures (record { holder = x; target = y })).1 (inr gives))))
+    (subst (λ xs. Contains xs (record { holder = x; target = y })) (sym whole) (subst (λ xs. Contains xs (record { holder = x; target = y })) (sym c.deref-pair-items.ensures.value) ((c.in_ok-pairs.ensures (record { holder = x; target = y })).1 (inr gives))))

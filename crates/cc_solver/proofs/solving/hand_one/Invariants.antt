@@ -12,6 +12,6 @@ invariant-loop-pair g l = record {
   keeps : Keeps l.fn.state l.state;
   all : (pair : Pair) → Contains (take l.pair-index l.pair-items) pair → Has l.state.pairs pair.holder pair.target;
   on : (given : List Pair) (joins : List Edge) (h : ℕ) (delta : List Cell) (next : Option ℕ)
-    → Solves given joins (g.R.Rules.adds l.rules) (g.R.Rules.gives l.rules) l.fn.state (OwesDue h delta next) (LagsAll h delta)
-    → Solves given joins (g.R.Rules.adds l.rules) (g.R.Rules.gives l.rules) l.state (OwesDue h delta next) (LagsAll h delta);
+      → Solves given joins (g.R.Rules.adds l.rules) (g.R.Rules.gives l.rules) l.fn.state (OwesDue h delta next) (LagsAll h delta)
+      → Solves given joins (g.R.Rules.adds l.rules) (g.R.Rules.gives l.rules) l.state (OwesDue h delta next) (LagsAll h delta);
 }

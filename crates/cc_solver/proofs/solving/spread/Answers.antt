@@ -14,9 +14,9 @@ use Rattle.cc_blocks.proofs.Ranks.{row_bit-high}
 
 In_small : (cells : List Cell) (t : ℕ) → AreAscending 0 cells → In cells t → t < 4294967296
 In_small cells t up is = elim (cases_lt t 4294967296) [
-    | inl lt ↦ lt
-    | inr ge ↦ absurd (let z = row_bit-high 0 cells t up ge in omega arith)
-  ]
+  | inl lt ↦ lt
+  | inr ge ↦ absurd (let z = row_bit-high 0 cells t up ge in omega arith)
+]
 
 if_some_on : (r : Option ℕ) (P Q : ℕ → Type 0) → ((k : ℕ) → P k → Q k) → IfSome r P → IfSome r Q
 if_some_on (Some x) P Q f p = f x p

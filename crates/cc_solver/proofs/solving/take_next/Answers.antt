@@ -19,7 +19,10 @@ pub returns-in-Some-clause-takes : goal.returns-in-Some-clause-takes
 returns-in-Some-clause-takes c = Taken.takes c.args.limits c.args.state.now c.take-delta.new.self (record c.args.state.now { work = c.pop_front.new.self }) c.in-Some.holder c.take-delta.result.cells.items c.requires c.in-Some.ensures.items c.take-delta.ensures.holders c.take-delta.ensures.row c.take-delta.ensures.at c.take-delta.ensures.others
 
 pub returns-in-None-clause-none : goal.returns-in-None-clause-none
-returns-in-None-clause-none c = (refl, λ h t is.
-    let at = c.requires.pending h t is in
-    let none : length c.args.state.now.work.items ≡ 0 = (let e = c.in-None.ensures.cases in search rules) in
-    let lt = at.1 in omega arith)
+returns-in-None-clause-none c = (
+  refl,
+  λ h t is.
+      let at = c.requires.pending h t is in
+      let none : length c.args.state.now.work.items ≡ 0 = (let e = c.in-None.ensures.cases in search rules) in
+      let lt = at.1 in omega arith,
+)

@@ -10,9 +10,9 @@ use Rattle.cc_blocks.proofs.Ranks.{row_bit-high}
 
 In_small : (cells : List Cell) (t : ℕ) → AreAscending 0 cells → In cells t → t < 4294967296
 In_small cells t up is = elim (cases_lt t 4294967296) [
-    | inl lt ↦ lt
-    | inr ge ↦ absurd (let z = row_bit-high 0 cells t up ge in omega arith)
-  ]
+  | inl lt ↦ lt
+  | inr ge ↦ absurd (let z = row_bit-high 0 cells t up ge in omega arith)
+]
 
 pub loop-next-init : goal.loop-next-init
 loop-next-init g c =

@@ -11,8 +11,8 @@ invariant-loop-next g l = record {
   keeps : Keeps l.fn.state l.state;
   in_delta : IfSome l.next (In l.delta.cells.items);
   on : (given : List Pair) (joins : List Edge)
-    → Solves given joins (g.R.Rules.adds l.rules) (g.R.Rules.gives l.rules) l.fn.state (OwesAll l.holder l.delta.cells.items) (LagsAll l.holder l.delta.cells.items)
-    → Solves given joins (g.R.Rules.adds l.rules) (g.R.Rules.gives l.rules) l.state (OwesDue l.holder l.delta.cells.items l.next) (LagsAll l.holder l.delta.cells.items);
+      → Solves given joins (g.R.Rules.adds l.rules) (g.R.Rules.gives l.rules) l.fn.state (OwesAll l.holder l.delta.cells.items) (LagsAll l.holder l.delta.cells.items)
+      → Solves given joins (g.R.Rules.adds l.rules) (g.R.Rules.gives l.rules) l.state (OwesDue l.holder l.delta.cells.items l.next) (LagsAll l.holder l.delta.cells.items);
 }
 
 abbrev pub decreases-loop-next : goal.decreases-loop-next

@@ -38,9 +38,9 @@ add_edge-requires-clause-from g c =
     let at = slice_get-get_or items i (record { from = 0; to = 0 }) c.loop-edge-test.true in
     let more : take (i + 1) items ≡ take i items ++ edge ∷ [] = take_next items i edge at in
     let adds : g.R.Rules.adds c.args.rules.now c.args.holder c.args.target edge.from edge.to = ⊎_elim
-        (λ none. absurd (Contains_nil c.clear.new.self.items c.clear.ensures.items edge none))
-        (λ a. a)
-        ((c.in_ok-edges.ensures edge).0 (subst (λ xs. Contains xs edge) c.deref-edge-items.ensures.value (contains_at items i edge at))) in
+    (λ none. absurd (Contains_nil c.clear.new.self.items c.clear.ensures.items edge none))
+    (λ a. a)
+    ((c.in_ok-edges.ensures edge).0 (subst (λ xs. Contains xs edge) c.deref-edge-items.ensures.value (contains_at items i edge at))) in
     let within = c.requires.adds c.args.holder c.args.target edge.from edge.to adds in
     omega (arith, within.0, c.loop-edge.invariant.keeps.same_length)
 
@@ -52,9 +52,9 @@ add_edge-requires-clause-to g c =
     let at = slice_get-get_or items i (record { from = 0; to = 0 }) c.loop-edge-test.true in
     let more : take (i + 1) items ≡ take i items ++ edge ∷ [] = take_next items i edge at in
     let adds : g.R.Rules.adds c.args.rules.now c.args.holder c.args.target edge.from edge.to = ⊎_elim
-        (λ none. absurd (Contains_nil c.clear.new.self.items c.clear.ensures.items edge none))
-        (λ a. a)
-        ((c.in_ok-edges.ensures edge).0 (subst (λ xs. Contains xs edge) c.deref-edge-items.ensures.value (contains_at items i edge at))) in
+    (λ none. absurd (Contains_nil c.clear.new.self.items c.clear.ensures.items edge none))
+    (λ a. a)
+    ((c.in_ok-edges.ensures edge).0 (subst (λ xs. Contains xs edge) c.deref-edge-items.ensures.value (contains_at items i edge at))) in
     let within = c.requires.adds c.args.holder c.args.target edge.from edge.to adds in
     omega (arith, within.1, c.loop-edge.invariant.keeps.same_length)
 
@@ -66,9 +66,9 @@ loop-edge-preserved g c =
     let at = slice_get-get_or items i (record { from = 0; to = 0 }) c.loop-edge-test.true in
     let more : take (i + 1) items ≡ take i items ++ edge ∷ [] = take_next items i edge at in
     let adds : g.R.Rules.adds c.args.rules.now c.args.holder c.args.target edge.from edge.to = ⊎_elim
-        (λ none. absurd (Contains_nil c.clear.new.self.items c.clear.ensures.items edge none))
-        (λ a. a)
-        ((c.in_ok-edges.ensures edge).0 (subst (λ xs. Contains xs edge) c.deref-edge-items.ensures.value (contains_at items i edge at))) in
+    (λ none. absurd (Contains_nil c.clear.new.self.items c.clear.ensures.items edge none))
+    (λ a. a)
+    ((c.in_ok-edges.ensures edge).0 (subst (λ xs. Contains xs edge) c.deref-edge-items.ensures.value (contains_at items i edge at))) in
     let within = c.requires.adds c.args.holder c.args.target edge.from edge.to adds in
     let links = c.in_ok-add_edge.ensures.links in
     record {
@@ -88,20 +88,20 @@ returns-in_err-add_edge-clause-many g c =
     let at = slice_get-get_or items i (record { from = 0; to = 0 }) c.loop-edge-test.true in
     let more : take (i + 1) items ≡ take i items ++ edge ∷ [] = take_next items i edge at in
     let adds : g.R.Rules.adds c.args.rules.now c.args.holder c.args.target edge.from edge.to = ⊎_elim
-        (λ none. absurd (Contains_nil c.clear.new.self.items c.clear.ensures.items edge none))
-        (λ a. a)
-        ((c.in_ok-edges.ensures edge).0 (subst (λ xs. Contains xs edge) c.deref-edge-items.ensures.value (contains_at items i edge at))) in
+    (λ none. absurd (Contains_nil c.clear.new.self.items c.clear.ensures.items edge none))
+    (λ a. a)
+    ((c.in_ok-edges.ensures edge).0 (subst (λ xs. Contains xs edge) c.deref-edge-items.ensures.value (contains_at items i edge at))) in
     let within = c.requires.adds c.args.holder c.args.target edge.from edge.to adds in
     λ is given joins h delta next v.
-        let now = c.loop-edge.invariant.on given joins h delta next v in
-        let e = Solved.along given joins (g.R.Rules.adds c.args.rules.now) (g.R.Rules.gives c.args.rules.now) edge.from edge.to in
-        Solved.more_than given joins (g.R.Rules.adds c.args.rules.now) (g.R.Rules.gives c.args.rules.now) c.args.limits c.loop-edge.state c.add_edge.new.state edge.to (Has c.loop-edge.state.pairs edge.from) now.sound
-        (λ t src. e t (inr (c.args.holder, c.args.target, v.sound c.args.holder c.args.target c.requires.pair, adds)) (now.sound edge.from t src))
-        (let p = err_from_is_err_and c.from_residual-in_err-add_edge.result c.from_residual-in_err-add_edge.ensures.1 in c.in_err-add_edge.ensures.many (ap Err (sym p.2) ∙ sym p.1 ∙ is))
+    let now = c.loop-edge.invariant.on given joins h delta next v in
+    let e = Solved.along given joins (g.R.Rules.adds c.args.rules.now) (g.R.Rules.gives c.args.rules.now) edge.from edge.to in
+    Solved.more_than given joins (g.R.Rules.adds c.args.rules.now) (g.R.Rules.gives c.args.rules.now) c.args.limits c.loop-edge.state c.add_edge.new.state edge.to (Has c.loop-edge.state.pairs edge.from) now.sound
+    (λ t src. e t (inr (c.args.holder, c.args.target, v.sound c.args.holder c.args.target c.requires.pair, adds)) (now.sound edge.from t src))
+    (let p = err_from_is_err_and c.from_residual-in_err-add_edge.result c.from_residual-in_err-add_edge.ensures.1 in c.in_err-add_edge.ensures.many (ap Err (sym p.2) ∙ sym p.1 ∙ is))
 
 pub returns-clause-all : goal.returns-clause-all
 returns-clause-all g c =
     let items = c.deref-edge-items.result.now in
     let whole : take c.loop-edge.edge-index items ≡ items = take_all c.loop-edge.edge-index items c.loop-edge-test.false in
     λ x y adds. c.loop-edge.invariant.all (record { from = x; to = y })
-        (subst (λ xs. Contains xs (record { from = x; to = y })) (sym whole) (subst (λ xs. Contains xs (record { from = x; to = y })) (sym c.deref-edge-items.ensures.value) ((c.in_ok-edges.ensures (record { from = x; to = y })).1 (inr adds))))
+    (subst (λ xs. Contains xs (record { from = x; to = y })) (sym whole) (subst (λ xs. Contains xs (record { from = x; to = y })) (sym c.deref-edge-items.ensures.value) ((c.in_ok-edges.ensures (record { from = x; to = y })).1 (inr adds))))

@@ -12,6 +12,6 @@ invariant-loop-edge g l = record {
   keeps : Keeps l.fn.state l.state;
   all : (edge : Edge) → Contains (take l.edge-index l.edge-items) edge → Has l.state.edges edge.from edge.to;
   on : (given : List Pair) (joins : List Edge) (h : ℕ) (delta : List Cell) (next : Option ℕ)
-    → Solves given joins (g.R.Rules.adds l.rules) (g.R.Rules.gives l.rules) l.fn.state (OwesDue h delta next) (LagsAll h delta)
-    → Solves given joins (g.R.Rules.adds l.rules) (g.R.Rules.gives l.rules) l.state (OwesDue h delta next) (LagsAll h delta);
+      → Solves given joins (g.R.Rules.adds l.rules) (g.R.Rules.gives l.rules) l.fn.state (OwesDue h delta next) (LagsAll h delta)
+      → Solves given joins (g.R.Rules.adds l.rules) (g.R.Rules.gives l.rules) l.state (OwesDue h delta next) (LagsAll h delta);
 }

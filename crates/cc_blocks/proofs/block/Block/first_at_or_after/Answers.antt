@@ -20,9 +20,9 @@ loop-from-preserved c =
 
 pub returns-clause-none : goal.returns-clause-none
 returns-clause-none c = λ k le. elim (cases_lt k c.loop-from.from) [
-    | inl before ↦ c.loop-from.invariant.none k le before
-    | inr after ↦ word_bit-nil c.args.self.now.lanes k (omega (arith, c.args.self.now.eight))
-  ]
+  | inl before ↦ c.loop-from.invariant.none k le before
+  | inr after ↦ word_bit-nil c.args.self.now.lanes k (omega (arith, c.args.self.now.eight))
+]
 
 pub returns-then-left-ne0-clause-some : goal.returns-then-left-ne0-clause-some
 returns-then-left-ne0-clause-some c =

@@ -73,10 +73,10 @@ invariant_of-self-2 c =
     let n = c.args.number in
     let e : c.rank-at.result ≡ rank_of cells n = c.rank-at.ensures.rank ∙ ap (λ xs. rank_of xs n) c.deref.ensures.value in
     let absent : (d : Cell) → slice_get cells c.rank-at.result ≡ Some d → d.number ≢ n =
-        elim c.else-at-len.branch [
-          | else-at-len-via-then-at-len+else-index-number w ↦ Edits.not_there cells n c.rank-at.result w.index.result.now (slice_get_read cells (length cells) c.rank-at.result w.index.result.now refl (omega (arith, c.len.ensures, w.if-at-len.true)) w.index.ensures) w.if-index-number.false
-          | else-at-len-via-else-at-len w ↦ Edits.past_end cells n c.rank-at.result (omega (arith, c.len.ensures, w.if-at-len.false))
-        ] in
+    elim c.else-at-len.branch [
+      | else-at-len-via-then-at-len+else-index-number w ↦ Edits.not_there cells n c.rank-at.result w.index.result.now (slice_get_read cells (length cells) c.rank-at.result w.index.result.now refl (omega (arith, c.len.ensures, w.if-at-len.true)) w.index.ensures) w.if-index-number.false
+      | else-at-len-via-else-at-len w ↦ Edits.past_end cells n c.rank-at.result (omega (arith, c.len.ensures, w.if-at-len.false))
+    ] in
     record { ascending = Edits.either_ascending cells n c.rank-at.result c.args.block.now c.args.self.now.ascending e c.requires absent _ _ c.insert.ensures.items }
 
 pub returns-clause-ok : goal.returns-clause-ok
@@ -85,10 +85,10 @@ returns-clause-ok c =
     let n = c.args.number in
     let e : c.rank-at.result ≡ rank_of cells n = c.rank-at.ensures.rank ∙ ap (λ xs. rank_of xs n) c.deref.ensures.value in
     let absent : (d : Cell) → slice_get cells c.rank-at.result ≡ Some d → d.number ≢ n =
-        elim c.else-at-len.branch [
-          | else-at-len-via-then-at-len+else-index-number w ↦ Edits.not_there cells n c.rank-at.result w.index.result.now (slice_get_read cells (length cells) c.rank-at.result w.index.result.now refl (omega (arith, c.len.ensures, w.if-at-len.true)) w.index.ensures) w.if-index-number.false
-          | else-at-len-via-else-at-len w ↦ Edits.past_end cells n c.rank-at.result (omega (arith, c.len.ensures, w.if-at-len.false))
-        ] in
+    elim c.else-at-len.branch [
+      | else-at-len-via-then-at-len+else-index-number w ↦ Edits.not_there cells n c.rank-at.result w.index.result.now (slice_get_read cells (length cells) c.rank-at.result w.index.result.now refl (omega (arith, c.len.ensures, w.if-at-len.true)) w.index.ensures) w.if-index-number.false
+      | else-at-len-via-else-at-len w ↦ Edits.past_end cells n c.rank-at.result (omega (arith, c.len.ensures, w.if-at-len.false))
+    ] in
     rw c.in_ok-insert.ensures.items (Edits.put_bits cells n c.rank-at.result c.args.block.now c.args.self.now.ascending e c.requires absent)
 
 pub returns-clause-count : goal.returns-clause-count
@@ -97,10 +97,10 @@ returns-clause-count c =
     let n = c.args.number in
     let e : c.rank-at.result ≡ rank_of cells n = c.rank-at.ensures.rank ∙ ap (λ xs. rank_of xs n) c.deref.ensures.value in
     let absent : (d : Cell) → slice_get cells c.rank-at.result ≡ Some d → d.number ≢ n =
-        elim c.else-at-len.branch [
-          | else-at-len-via-then-at-len+else-index-number w ↦ Edits.not_there cells n c.rank-at.result w.index.result.now (slice_get_read cells (length cells) c.rank-at.result w.index.result.now refl (omega (arith, c.len.ensures, w.if-at-len.true)) w.index.ensures) w.if-index-number.false
-          | else-at-len-via-else-at-len w ↦ Edits.past_end cells n c.rank-at.result (omega (arith, c.len.ensures, w.if-at-len.false))
-        ] in
+    elim c.else-at-len.branch [
+      | else-at-len-via-then-at-len+else-index-number w ↦ Edits.not_there cells n c.rank-at.result w.index.result.now (slice_get_read cells (length cells) c.rank-at.result w.index.result.now refl (omega (arith, c.len.ensures, w.if-at-len.true)) w.index.ensures) w.if-index-number.false
+      | else-at-len-via-else-at-len w ↦ Edits.past_end cells n c.rank-at.result (omega (arith, c.len.ensures, w.if-at-len.false))
+    ] in
     rw c.in_ok-insert.ensures.items (Edits.put_size cells n c.rank-at.result c.args.block.now c.args.self.now.ascending e c.requires absent ∙ ap (λ x. row_size cells + x) (sym c.count-2.ensures))
 
 pub returns-clause-some : goal.returns-clause-some
@@ -109,10 +109,10 @@ returns-clause-some c =
     let n = c.args.number in
     let e : c.rank-at.result ≡ rank_of cells n = c.rank-at.ensures.rank ∙ ap (λ xs. rank_of xs n) c.deref.ensures.value in
     let absent : (d : Cell) → slice_get cells c.rank-at.result ≡ Some d → d.number ≢ n =
-        elim c.else-at-len.branch [
-          | else-at-len-via-then-at-len+else-index-number w ↦ Edits.not_there cells n c.rank-at.result w.index.result.now (slice_get_read cells (length cells) c.rank-at.result w.index.result.now refl (omega (arith, c.len.ensures, w.if-at-len.true)) w.index.ensures) w.if-index-number.false
-          | else-at-len-via-else-at-len w ↦ Edits.past_end cells n c.rank-at.result (omega (arith, c.len.ensures, w.if-at-len.false))
-        ] in
+    elim c.else-at-len.branch [
+      | else-at-len-via-then-at-len+else-index-number w ↦ Edits.not_there cells n c.rank-at.result w.index.result.now (slice_get_read cells (length cells) c.rank-at.result w.index.result.now refl (omega (arith, c.len.ensures, w.if-at-len.true)) w.index.ensures) w.if-index-number.false
+      | else-at-len-via-else-at-len w ↦ Edits.past_end cells n c.rank-at.result (omega (arith, c.len.ensures, w.if-at-len.false))
+    ] in
     λ h. Edits.put_some cells n c.rank-at.result c.args.block.now c.args.self.now.ascending e c.requires absent (omega (arith, c.count-2.ensures, h))
 
 pub returns-clause-none : goal.returns-clause-none
@@ -121,10 +121,10 @@ returns-clause-none c =
     let n = c.args.number in
     let e : c.rank-at.result ≡ rank_of cells n = c.rank-at.ensures.rank ∙ ap (λ xs. rank_of xs n) c.deref.ensures.value in
     let absent : (d : Cell) → slice_get cells c.rank-at.result ≡ Some d → d.number ≢ n =
-        elim c.else-at-len.branch [
-          | else-at-len-via-then-at-len+else-index-number w ↦ Edits.not_there cells n c.rank-at.result w.index.result.now (slice_get_read cells (length cells) c.rank-at.result w.index.result.now refl (omega (arith, c.len.ensures, w.if-at-len.true)) w.index.ensures) w.if-index-number.false
-          | else-at-len-via-else-at-len w ↦ Edits.past_end cells n c.rank-at.result (omega (arith, c.len.ensures, w.if-at-len.false))
-        ] in
+    elim c.else-at-len.branch [
+      | else-at-len-via-then-at-len+else-index-number w ↦ Edits.not_there cells n c.rank-at.result w.index.result.now (slice_get_read cells (length cells) c.rank-at.result w.index.result.now refl (omega (arith, c.len.ensures, w.if-at-len.true)) w.index.ensures) w.if-index-number.false
+      | else-at-len-via-else-at-len w ↦ Edits.past_end cells n c.rank-at.result (omega (arith, c.len.ensures, w.if-at-len.false))
+    ] in
     λ h. Edits.put_none cells n c.rank-at.result c.args.block.now c.args.self.now.ascending e c.requires absent (sym c.count-2.ensures ∙ h)
 
 pub returns-clause-bound : goal.returns-clause-bound

@@ -33,10 +33,10 @@ overflow_mul-result c =
     let split = Edits.drop_some cells at cell got in
     let up = rw split at c.loop-at.invariant.up in
     let low : (cell.number ≡ c.args.start / 512 → c.if-cell-number.low ≡ c.args.start % 512) × (cell.number ≢ c.args.start / 512 → c.if-cell-number.low ≡ 0) =
-        elim c.if-cell-number.branch [
-          | then-cell-number w ↦ (λ e. w.low-is, λ ne. absurd (ne w.if-cell-number.true))
-          | else-cell-number w ↦ (λ e. absurd (w.if-cell-number.false e), λ ne. w.low-is)
-        ] in
+    elim c.if-cell-number.branch [
+      | then-cell-number w ↦ (λ e. w.low-is, λ ne. absurd (ne w.if-cell-number.true))
+      | else-cell-number w ↦ (λ e. absurd (w.if-cell-number.false e), λ ne. w.low-is)
+    ] in
     record { fits = omega (arith, Ranks.ascending-number 0 cells at cell s.ascending got) }
 
 pub overflow_add-result : goal.overflow_add-result
@@ -50,10 +50,10 @@ overflow_add-result c =
     let split = Edits.drop_some cells at cell got in
     let up = rw split at c.loop-at.invariant.up in
     let low : (cell.number ≡ c.args.start / 512 → c.if-cell-number.low ≡ c.args.start % 512) × (cell.number ≢ c.args.start / 512 → c.if-cell-number.low ≡ 0) =
-        elim c.if-cell-number.branch [
-          | then-cell-number w ↦ (λ e. w.low-is, λ ne. absurd (ne w.if-cell-number.true))
-          | else-cell-number w ↦ (λ e. absurd (w.if-cell-number.false e), λ ne. w.low-is)
-        ] in
+    elim c.if-cell-number.branch [
+      | then-cell-number w ↦ (λ e. w.low-is, λ ne. absurd (ne w.if-cell-number.true))
+      | else-cell-number w ↦ (λ e. absurd (w.if-cell-number.false e), λ ne. w.low-is)
+    ] in
     record { fits = omega (arith, Ranks.ascending-number 0 cells at cell s.ascending got, c.in-Some.ensures.some.1) }
 
 pub returns-in-Some-clause-some : goal.returns-in-Some-clause-some
@@ -67,10 +67,10 @@ returns-in-Some-clause-some c =
     let split = Edits.drop_some cells at cell got in
     let up = rw split at c.loop-at.invariant.up in
     let low : (cell.number ≡ c.args.start / 512 → c.if-cell-number.low ≡ c.args.start % 512) × (cell.number ≢ c.args.start / 512 → c.if-cell-number.low ≡ 0) =
-        elim c.if-cell-number.branch [
-          | then-cell-number w ↦ (λ e. w.low-is, λ ne. absurd (ne w.if-cell-number.true))
-          | else-cell-number w ↦ (λ e. absurd (w.if-cell-number.false e), λ ne. w.low-is)
-        ] in
+    elim c.if-cell-number.branch [
+      | then-cell-number w ↦ (λ e. w.low-is, λ ne. absurd (ne w.if-cell-number.true))
+      | else-cell-number w ↦ (λ e. absurd (w.if-cell-number.false e), λ ne. w.low-is)
+    ] in
     let is = c.in-Some.ensures.some in
     let first = Edits.first c.args.start c.if-cell-number.low cell (drop (at + 1) cells) up low.0 low.1 c.in-Some.i is.0 is.1 is.2 is.3 in
     let same = λ (t : ℕ) (le : c.args.start ≤ t). sym (c.loop-at.invariant.rest t le) ∙ ap (λ xs. row_bit xs t) split in
@@ -87,10 +87,10 @@ loop-at-preserved c =
     let split = Edits.drop_some cells at cell got in
     let up = rw split at c.loop-at.invariant.up in
     let low : (cell.number ≡ c.args.start / 512 → c.if-cell-number.low ≡ c.args.start % 512) × (cell.number ≢ c.args.start / 512 → c.if-cell-number.low ≡ 0) =
-        elim c.if-cell-number.branch [
-          | then-cell-number w ↦ (λ e. w.low-is, λ ne. absurd (ne w.if-cell-number.true))
-          | else-cell-number w ↦ (λ e. absurd (w.if-cell-number.false e), λ ne. w.low-is)
-        ] in
+    elim c.if-cell-number.branch [
+      | then-cell-number w ↦ (λ e. w.low-is, λ ne. absurd (ne w.if-cell-number.true))
+      | else-cell-number w ↦ (λ e. absurd (w.if-cell-number.false e), λ ne. w.low-is)
+    ] in
     let none = c.in_default.ensures.none in
     record {
       within = omega arith;

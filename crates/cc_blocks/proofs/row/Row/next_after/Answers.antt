@@ -26,6 +26,6 @@ returns-in-Some-clause-none c = none_on c.first_at_or_after.result c.args.self.n
 
 pub returns-in-None-clause-none : goal.returns-in-None-clause-none
 returns-in-None-clause-none c = λ t above. Ranks.row_bit-high 0 c.args.self.now.cells.items t c.args.self.now.ascending (elim (cases_lt t 4294967296) [
-    | inl lt ↦ absurd (c.in-None.ensures (omega arith))
-    | inr ge ↦ ge
-  ])
+  | inl lt ↦ absurd (c.in-None.ensures (omega arith))
+  | inr ge ↦ ge
+])
