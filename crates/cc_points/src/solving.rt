@@ -35,17 +35,6 @@ impl From<Memory> for PointsFault {
     }
 }
 
-impl From<Stop> for PointsFault {
-    ghost from_gives = { λ stop fault. fault ≡ spec.fault_of stop };
-
-    fn from(stop: Stop) -> PointsFault {
-        match stop {
-            Stop::TooMany => PointsFault::TooManyFacts,
-            Stop::Memory => PointsFault::Memory,
-        }
-    }
-}
-
 // How many facts there may be, and how many pairs the solver may keep in all.
 const MOST: u64 = 4_194_304;
 
@@ -66,8 +55,11 @@ fn pairs_of(alloc: Global, view: &View) -> Result<Rows, PointsFault>
     if !is_small(view) {
         return Err(PointsFault::Memory);
     }
-    let rows = solve_view(alloc, view, MOST, ROOM)?;
-    Ok(rows)
+    match solve_view(alloc, view, MOST, ROOM) {
+        Ok(rows) => Ok(rows),
+        Err(Stop::TooMany) => Err(PointsFault::TooManyFacts),
+        Err(Stop::Memory) => Err(PointsFault::Memory),
+    }
 }
 
 /// The points-to facts of a program, exactly: each follows by a rule from earlier ones, and each that follows is there. The
@@ -82,7 +74,11 @@ pub fn solve(alloc: Global, program: &Program) -> Result<Facts, PointsFault>
     ensures many { result ≡ Err fault.TooManyFacts → spec.AreTooMany (view_of program.now) }
 {
     let view = view_of(alloc, program)?;
-    let rows = pairs_of(alloc, &view)?;
-    let facts = keep(alloc, view, rows)?;
-    Ok(facts)
+    match pairs_of(alloc, &view) {
+        Ok(rows) => {
+            let facts = keep(alloc, view, rows)?;
+            Ok(facts)
+        }
+        Err(fault) => Err(fault),
+    }
 }

@@ -24,7 +24,7 @@ pub slot_is : (L : Layout) (s : ℕ) → s < L.slots → slot L s ≡ L.nodes + 
 unfolding slot
 slot_is L s lt = sym (cond_below s L.slots (L.nodes + s) (spare L) lt)
 
-place_is : (L : Layout) (n : ℕ) → n < L.nodes → place L n ≡ L.nodes + L.slots + n
+pub place_is : (L : Layout) (n : ℕ) → n < L.nodes → place L n ≡ L.nodes + L.slots + n
 unfolding place
 place_is L n lt = sym (cond_below n L.nodes (L.nodes + L.slots + n) (spare L) lt)
 
