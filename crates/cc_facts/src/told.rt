@@ -75,7 +75,7 @@ impl Facts {
 
     // Where the parts of lvalues begin, after the targets of values and slots.
     fn first_place(&self) -> u64
-        ensures { result ≡ spec.first_place self.now }
+        ensures first { result ≡ spec.first_place self.now }
         ensures small { result < 2 ^ 31 }
     {
         u64::from(self.occurrences) + u64::from(self.parts.count())

@@ -20,8 +20,8 @@ set_head [] inner x y = refl
 set_head (z ∷ old) inner x y = ap (λ xs. z ∷ xs) (set_head old inner x y)
 
 long_since : (old inner : List Part) (x : Part) → length ((old ++ x ∷ []) ++ inner) - length old ≡ suc (length inner)
-long_since [] inner x = refl
-long_since (z ∷ old) inner x = long_since old inner x
+long_since [] inner x = omega arith
+long_since (z ∷ old) inner x = omega (arith, long_since old inner x)
 
 -- a part that was put before what it is made of, and then said to be made of it
 wrapped : (old inner : List Part) (o : ℕ) (f : Form) (a : Bool) → closed (length old) o f a (with_leaf o form.Other a old ++ inner) ≡ old ++ headed o f a inner

@@ -16,11 +16,15 @@ no_parts = record { objects = []; parts = [] }
 abbrev pub an_object : ℕ → ℕ → Object
 an_object node first = record { node = node; first = first }
 
+-- the parts of an object of a type, in which types stand at most 64 deep in one another
+unfoldable pub object_parts : List Shape → List StructEntry → ℕ → TypeId → List Part
+object_parts ss es object t = parts_of ss es object 64 false t
+
 -- with an object of a type at the end
 abbrev pub with_object : List Shape → List StructEntry → ℕ → TypeId → Parts → Parts
 with_object ss es node t P = record {
   objects = P.objects ++ an_object node (length P.parts) ∷ [];
-  parts = P.parts ++ parts_of ss es (length P.objects) 64 false t;
+  parts = P.parts ++ object_parts ss es (length P.objects) t;
 }
 
 -- With a string literal at the end: an array of characters.

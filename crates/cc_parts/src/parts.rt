@@ -1,5 +1,5 @@
 // The parts of all objects of a program.
-ghost use Rattle.std.specs.Prelude.{◌≡◌, ◌+◌, ◌≤◌, ◌<◌, ◌^◌, [], length, slice_get, OnOk};
+ghost use Rattle.std.specs.Prelude.{◌≡◌, ◌++◌, ◌+◌, ◌≤◌, ◌<◌, ◌^◌, [], length, slice_get, OnOk};
 ghost use Rattle.cc_parts.specs.PartTables as spec;
 
 use crate::build::put_parts;
@@ -25,6 +25,20 @@ pub struct Parts {
     pub parts: Slots<Part>,
 }
 
+// Puts the parts of an object of a type at the end.
+fn put_whole(
+    parts: &mut Slots<Part>,
+    table: &TypeTable,
+    structs: &Structs,
+    object: u32,
+    kind: TypeId,
+) -> Result<(), Memory>
+    ensures { OnOk result (parts.new ≡ parts.old ++ spec.object_parts table.now structs.now object kind) }
+{
+    put_parts(parts, table, structs, object, DEPTH, false, kind)?;
+    Ok(())
+}
+
 impl Parts {
     /// No objects. Takes no memory.
     pub fn new(alloc: Global) -> Parts
@@ -48,7 +62,7 @@ impl Parts {
     {
         let object = self.objects.count()?;
         let first = self.parts.count()?;
-        put_parts(&mut self.parts, table, structs, object, DEPTH, false, kind)?;
+        put_whole(&mut self.parts, table, structs, object, kind)?;
         self.objects.push(Object { node, first })
     }
 
