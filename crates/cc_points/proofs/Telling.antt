@@ -1,6 +1,6 @@
 -- What the solver's table says of the facts, in the table that is kept.
-use Rattle.std.proofs.Common.{ℕ, ◌+◌, ◌<◌, ◌≡◌, List, [], length, refl, sym, ap, ◌∙◌, subst}
-use Rattle.std.specs.Prelude.{Contains, ◌↔◌}
+use Rattle.std.proofs.Common.{ℕ, ◌+◌, ◌<◌, ◌≡◌, List, [], length, refl, sym, ap, ◌∙◌, subst, Ok, Err}
+use Rattle.std.specs.Prelude.{Contains, ◌↔◌, Result}
 use Rattle.cc_blocks.specs.declared.row.Row.{Row}
 use Rattle.cc_blocks.specs.declared.table.Rows.{Rows}
 use Rattle.cc_blocks.specs.Pairs.{pair_bit}
@@ -19,6 +19,7 @@ use Rattle.cc_points_view.specs.Views.{view_of}
 use Rattle.cc_points_view.proofs.Withins.{view_within}
 use Rattle.cc_points.specs.Tables.{IsTableOf}
 use Rattle.cc_points.specs.Solving as spec
+use Rattle.cc_points.specs.declared.solving.PointsFault.{PointsFault}
 
 module _ (P : View) (rows : Rows) (F : Facts) (is : IsTableOf P rows F) where
   parts_same : slots_in P ≡ parts_in F
@@ -58,3 +59,27 @@ fits p fit = fit (view_within p)
 
 pub too_many : (p : Program) → law.AreTooMany (view_of p) 4194304 → spec.AreTooMany (view_of p)
 too_many p many = many (view_within p)
+
+-- the same, where the view is that of a program
+pub exists_at : (p : Program) (P : View) → P ≡ view_of p → law.FactsExist P → spec.FactsExist (view_of p)
+exists_at p P e some = exists p (subst (λ (v : View). law.FactsExist v) e some)
+
+pub told_at : (p : Program) (P : View) (rows : Rows) (F : Facts) → P ≡ view_of p → IsTableOf P rows F → law.TellsFacts P rows.rows.items → spec.TellsFacts (view_of p) F
+told_at p P rows F e is told = subst (λ (v : View). spec.TellsFacts v F) e (tells P rows F is (subst (λ (v : View). IsWithin v) (sym e) (view_within p)) told)
+
+pub parts_at : (p : Program) (P : View) (rows : Rows) (F : Facts) → P ≡ view_of p → IsTableOf P rows F → law.TellsParts P rows.rows.items → spec.TellsParts (view_of p) F
+parts_at p P rows F e is told = subst (λ (v : View). spec.TellsParts v F) e (tells_parts P rows F is (subst (λ (v : View). IsWithin v) (sym e) (view_within p)) told)
+
+pub fits_at : (p : Program) (P : View) → P ≡ view_of p → law.FitFacts P 4194304 → spec.FitFacts (view_of p)
+fits_at p P e fit = fits p (subst (λ (v : View). law.FitFacts v 4194304) e fit)
+
+pub many_at : (p : Program) (P : View) → P ≡ view_of p → law.AreTooMany P 4194304 → spec.AreTooMany (view_of p)
+many_at p P e many = too_many p (subst (λ (v : View). law.AreTooMany v 4194304) e many)
+
+fault_or : PointsFault → Result Facts PointsFault → PointsFault
+fault_or d (Ok x) = d
+fault_or d (Err x) = x
+
+pub same_fault : (a b : PointsFault) (r s : Result Facts PointsFault) → r ≡ Err a → s ≡ Err b → r ≡ s → a ≡ b
+unfolding fault_or
+same_fault a b r s is_r is_s e = sym (ap (fault_or a) is_r) ∙ ap (fault_or a) e ∙ ap (fault_or a) is_s

@@ -1,5 +1,5 @@
 // What the table of facts has besides the facts.
-ghost use Rattle.std.specs.Prelude.{◌≡◌, ◌+◌, ◌<◌, ◌^◌, length, IfOk, OnOk};
+ghost use Rattle.std.specs.Prelude.{◌≡◌, [], IfOk};
 ghost use Rattle.cc_points_base.specs.Layouts.{IsSmall, layout_of};
 ghost use Rattle.cc_points.specs.Tables as spec;
 

@@ -57,11 +57,10 @@ leaf_within : (P : View) (id q w s : ℕ) → leaf_of P id q w ≡ Some s → s 
 leaf_within P id q w s e =
     let parts = P.parts.parts in
     let r = refused (not (table.is_struct parts id q) || nat_le (table.size_at parts q) w || nat_le (slots_in P) q || nat_le (slots_in P - q) w) (table.pointer_at parts (q + w)) s e in
-    let a = neither (not (table.is_struct parts id q)) _ r.0 in
-    let b = neither (nat_le (table.size_at parts q) w) _ a.1 in
-    let c = neither (nat_le (slots_in P) q) (nat_le (slots_in P - q) w) b.1 in
+    let d = neither (not (table.is_struct parts id q) || nat_le (table.size_at parts q) w || nat_le (slots_in P) q) (nat_le (slots_in P - q) w) r.0 in
+    let c = neither (not (table.is_struct parts id q) || nat_le (table.size_at parts q) w) (nat_le (slots_in P) q) d.0 in
     let at = (chosen (table.is_pointer parts (q + w)) (q + w) s r.1).1 in
-    omega (arith, at, leb-false (slots_in P) q c.0, leb-false (slots_in P - q) w c.1)
+    omega (arith, at, leb-false (slots_in P) q c.1, leb-false (slots_in P - q) w d.1)
 
 formal_slot : (P : View) (o : Option ℕ) (s : ℕ) → slot_in P o ≡ Some s → s < slots_in P
 formal_slot P (Some q) s e = slot_within P q s e
@@ -147,7 +146,7 @@ module _ (P : View) (count : ℕ) (le : count ≤ length P.nodes) where
     cell_low : (b : Bool) (o : Option ℕ) (q : ℕ) → cell_if P.parts b o ≡ Some q → q < slots_in P
     cell_low b (Some r) q e =
         let c = chosen (b && nat_lt r (slots_in P) && table.is_pointer P.parts.parts r) r q e in
-        subst (λ n. n < slots_in P) c.1 (ltb-true r (slots_in P) (both _ _ (both b _ c.0).1).0)
+        subst (λ n. n < slots_in P) c.1 (ltb-true r (slots_in P) (both b (nat_lt r (slots_in P)) (both (b && nat_lt r (slots_in P)) (table.is_pointer P.parts.parts r) c.0).0).1)
     cell_low b None q e = absurd (let f = e in cc)
 
     pointer_low : (x : Node) (o : Option Standing) (q : ℕ) → pointer_cell P.parts x o ≡ Some q → q < slots_in P
@@ -227,4 +226,5 @@ pub view_within : (p : Program) → IsWithin (view_of p)
 view_within p =
     let parts = parts_of_program p in
     let T = with_functions parts p.functions (no_tables (copied p.arena.lists [])) in
-    with_within p parts (tables_of p parts) (ap (λ (fs : List Callee). length fs) (paths_keep parts.parts T) ∙ functions_long parts p.functions (no_tables (copied p.arena.lists [])))
+    let none : 0 + length p.functions ≡ length p.functions = omega arith in
+    with_within p parts (tables_of p parts) (ap (λ (fs : List Callee). length fs) (paths_keep parts.parts T) ∙ functions_long parts p.functions (no_tables (copied p.arena.lists [])) ∙ none)

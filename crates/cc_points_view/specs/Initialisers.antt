@@ -30,6 +30,11 @@ abbrev pub with_cell : Option ℕ → ℕ → List Seen → List Seen
 with_cell (Some q) n nodes = nodes ++ init q n ∷ []
 with_cell None n nodes = nodes
 
+-- with the initialiser that the node n is, if it is there
+abbrev pub with_one : Parts → List Standing → ℕ → Option Placed → List Seen → List Seen
+with_one parts standings n (Some x) nodes = with_cell (pointer_cell parts x.node (slice_get standings n)) n nodes
+with_one parts standings n None nodes = nodes
+
 -- with the initialisers among these nodes, the first of which is the n-th
 abbrev pub with_initialisers : Parts → List Standing → List Placed → ℕ → List Seen → List Seen
 with_initialisers parts standings [] n nodes = nodes

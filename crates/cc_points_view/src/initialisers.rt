@@ -57,6 +57,32 @@ fn standing_at(standings: &[Standing], n: u32) -> Option<Standing>
     standings.get(n as usize).copied()
 }
 
+// Puts the initialiser that a node is at the end, if it is one of a pointer.
+fn put_one(
+    nodes: &mut Slots<Seen>,
+    parts: &Parts,
+    standings: &[Standing],
+    n: u32,
+    placed: Option<Placed>,
+) -> Result<(), Memory>
+    ensures { OnOk result (nodes.new ≡ spec.with_one parts.now standings.now n placed nodes.old) }
+{
+    match placed {
+        Some(placed) => {
+            let cell = pointer_cell(parts, placed.node, standing_at(standings, n));
+            put_cell(nodes, cell, n)?;
+            Ok(())
+        }
+        None => Ok(()),
+    }
+}
+
+fn placed_at(placed: &[Placed], n: u32) -> Option<Placed>
+    ensures { result ≡ slice_get placed.now n }
+{
+    placed.get(n as usize).copied()
+}
+
 /// Puts the initialisers of pointers at the end, where these are the occurrences and what they have from the nodes around
 /// them. Fails where memory is wanting.
 pub fn put_initialisers(
@@ -68,14 +94,8 @@ pub fn put_initialisers(
     requires { length placed.now < 2 ^ 32 }
     ensures { OnOk result (nodes.new ≡ spec.with_initialisers parts.now standings.now placed.now 0 nodes.old) }
 {
-    let mut n: u32 = 0;
-    for x in placed {
-        put_cell(
-            nodes,
-            pointer_cell(parts, x.node, standing_at(standings, n)),
-            n,
-        )?;
-        n += 1;
+    for n in 0..placed.len() as u32 {
+        put_one(nodes, parts, standings, n, placed_at(placed, n))?;
     }
     Ok(())
 }

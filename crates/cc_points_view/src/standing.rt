@@ -1,5 +1,5 @@
 // What an occurrence has from the nodes around it.
-ghost use Rattle.std.specs.Prelude.{◌≡◌, ◌+◌, ◌<◌, ◌^◌, length, slice_get, IfOk};
+ghost use Rattle.std.specs.Prelude.{◌≡◌, ◌<◌, ◌^◌, [], length, slice_get, IfOk};
 ghost use Rattle.cc_arena.specs.Arenas.{stretch, node_of};
 ghost use Rattle.cc_program.specs.Programs.{names};
 ghost use Rattle.cc_points_view.specs.Standings as spec;
