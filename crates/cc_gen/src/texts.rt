@@ -1,0 +1,142 @@
+// The texts of the files.
+ghost use Rattle.std.specs.Prelude.{◌≡◌, ◌≤◌, IfOk, OnOk, ◌++◌, string_bytes};
+ghost use Rattle.cc_gen.specs.Generated as spec;
+
+use std::alloc::{AllocError, Global};
+
+/// How many functions each component has.
+pub const FUNCTIONS: u32 = 20;
+
+// Function j of component i of n.
+fn function_text(alloc: Global, n: u32, i: u32, j: u32) -> Result<String, AllocError>
+    requires { i ≤ n }
+    requires { n ≤ 60 }
+    ensures { IfOk result (λ text. string_bytes text ≡ spec.function_text n i j) }
+{
+    if i < n {
+        calling(alloc, i, i + 1, j)
+    } else {
+        ending(alloc, i, j)
+    }
+}
+
+// Function j of component i, where the next component is k.
+fn calling(alloc: Global, i: u32, k: u32, j: u32) -> Result<String, AllocError>
+    ensures { IfOk result (λ text. string_bytes text ≡ spec.calling i k j) }
+{
+    format!(in alloc; "extern int v{k}_{j};\nint v{i}_{j};\nint s{k}_{j}(int n);\nint s{i}_{j}(int n) {{ v{i}_{j} = n; if (n > 0) n = s{k}_{j}(n - 1) + v{k}_{j}; return n; }}\n")
+}
+
+// Function j of the last component.
+fn ending(alloc: Global, i: u32, j: u32) -> Result<String, AllocError>
+    ensures { IfOk result (λ text. string_bytes text ≡ spec.ending i j) }
+{
+    format!(in alloc; "int v{i}_{j};\nint s{i}_{j}(int n) {{ v{i}_{j} = n; return n; }}\n")
+}
+
+/// The file of component i of n.
+pub fn unit_text(alloc: Global, n: u32, i: u32) -> Result<String, AllocError>
+    requires at { i ≤ n }
+    requires n { n ≤ 60 }
+    ensures { IfOk result (λ text. string_bytes text ≡ spec.unit_text n i) }
+{
+    let mut text = String::new(alloc);
+    for j in 0..FUNCTIONS {
+        let function = function_text(alloc, n, i, j + 1)?;
+        text.push_str(function.as_str())?;
+    }
+    Ok(text)
+}
+
+/// The name of the file of component i.
+pub fn unit_name(alloc: Global, i: u32) -> Result<String, AllocError>
+    ensures { IfOk result (λ text. string_bytes text ≡ spec.unit_name i) }
+{
+    format!(in alloc; "c{i}.c")
+}
+
+// Puts a comma and a space where something stands before.
+fn push_comma(text: &mut String, before: u32) -> Result<(), AllocError>
+    ensures { OnOk result (string_bytes text.new ≡ string_bytes text.old ++ spec.comma before) }
+{
+    if before > 0 {
+        text.push_str(", ")?;
+    }
+    Ok(())
+}
+
+// The entries, with commas between.
+fn entries_text(alloc: Global) -> Result<String, AllocError>
+    ensures { IfOk result (λ text. string_bytes text ≡ spec.entries_text 20) }
+{
+    let mut text = String::new(alloc);
+    for j in 0..FUNCTIONS {
+        push_comma(&mut text, j)?;
+        let entry = entry_text(alloc, j + 1)?;
+        text.push_str(entry.as_str())?;
+    }
+    Ok(text)
+}
+
+fn entry_text(alloc: Global, j: u32) -> Result<String, AllocError>
+    ensures { IfOk result (λ text. string_bytes text ≡ spec.entry_text j) }
+{
+    format!(in alloc; "\"s1_{j}\"")
+}
+
+// A call of each entry with this argument.
+fn calls_text(alloc: Global, argument: u32) -> Result<String, AllocError>
+    ensures { IfOk result (λ text. string_bytes text ≡ spec.calls_text argument 20) }
+{
+    let mut text = String::new(alloc);
+    for j in 0..FUNCTIONS {
+        push_comma(&mut text, j)?;
+        let call = call_text(alloc, argument, j + 1)?;
+        text.push_str(call.as_str())?;
+    }
+    Ok(text)
+}
+
+fn call_text(alloc: Global, argument: u32, j: u32) -> Result<String, AllocError>
+    ensures { IfOk result (λ text. string_bytes text ≡ spec.call_text argument j) }
+{
+    format!(in alloc; "[\"s1_{j}\", {argument}]")
+}
+
+fn component_text(alloc: Global, i: u32) -> Result<String, AllocError>
+    ensures { IfOk result (λ text. string_bytes text ≡ spec.component_text i) }
+{
+    format!(in alloc; "\n[[component]]\nname = \"C{i}\"\nfiles = [\"c{i}.c\"]\n")
+}
+
+fn components_text(alloc: Global, n: u32) -> Result<String, AllocError>
+    requires { n ≤ 60 }
+    ensures { IfOk result (λ text. string_bytes text ≡ spec.components_text n) }
+{
+    let mut text = String::new(alloc);
+    for i in 0..n {
+        let component = component_text(alloc, i + 1)?;
+        text.push_str(component.as_str())?;
+    }
+    Ok(text)
+}
+
+// A test that calls each entry with this argument.
+fn test_text(alloc: Global, name: u32, argument: u32) -> Result<String, AllocError>
+    ensures { IfOk result (λ text. string_bytes text ≡ spec.test_text name argument) }
+{
+    let calls = calls_text(alloc, argument)?;
+    format!(in alloc; "\n[[test]]\nname = \"T{name}\"\nturns = 100000\ncalls = [{calls}]\n")
+}
+
+/// The project file of n components.
+pub fn project_text(alloc: Global, n: u32) -> Result<String, AllocError>
+    requires { n ≤ 60 }
+    ensures { IfOk result (λ text. string_bytes text ≡ spec.project_text n) }
+{
+    let entries = entries_text(alloc)?;
+    let components = components_text(alloc, n)?;
+    let first = test_text(alloc, 1, 0)?;
+    let second = test_text(alloc, 2, n)?;
+    format!(in alloc; "format = 1\nentries = [{entries}]\n{components}{first}{second}")
+}
