@@ -1,10 +1,11 @@
 // A shelf in memory whose reads fail where a list says so.
-ghost use Rattle.std.specs.Prelude.{◌≡◌, Some, OnOk, OnErr, IfOk, IsErrOf, true, ◌↔◌};
+ghost use Rattle.std.specs.Prelude.{◌≡◌, ◌≤◌, ◌↔◌, Some, Ok, OnOk, OnErr, IfOk, IfSome, IsErrOf, true};
 ghost use Rattle.std.specs.FinMap as map;
-ghost use Rattle.cc_io.specs.Count.{one_more, Rose};
+ghost use Rattle.cc_io.specs.Count.{Rose};
 ghost use Rattle.cc_io.specs.Shelf.{IsWithin, IsFoundIn};
-ghost use Rattle.cc_io_memory.specs.Calls.{is_listed};
-ghost use Rattle.cc_io_memory.specs.Shelves.{deck_of};
+ghost use Rattle.cc_io.specs.declared.shelf.Found.{Found};
+ghost use Rattle.cc_io.specs.declared.shelf.ShelfFault.{ShelfFault};
+ghost use Rattle.cc_io_memory.specs.Shelves.{AfterRead, deck_of, is_due};
 
 use crate::listed::is_listed;
 use cc_io::{Found, Memory, Shelf, ShelfFault, SureShelf};
@@ -62,7 +63,26 @@ impl Shelf for MemoryShelf {
     ghost longs = { λ s. (deck_of s).longs };
 
     /// Fails just where the number of this read is in the list.
-    fn read(&mut self, alloc: Global, name: &str, cap: u64) -> Result<Found, ShelfFault> {
+    fn read(&mut self, alloc: Global, name: &str, cap: u64) -> Result<Found, ShelfFault>
+        // Just which reads fail, and what a read counts.
+        ensures fails { IsErrOf result ShelfFault.Failed ↔ (is_due (deck_of self.old) ≡ true) }
+        ensures counts { AfterRead (deck_of self.old) (deck_of self.new) }
+
+        // The clauses of the trait.
+        ensures keeps { Some (deck_of self.new).files ≡ Some (deck_of self.old).files }
+        ensures faults_stay { (deck_of self.old).faults ≤ (deck_of self.new).faults }
+        ensures misses_stay { (deck_of self.old).misses ≤ (deck_of self.new).misses }
+        ensures longs_stay { (deck_of self.old).longs ≤ (deck_of self.new).longs }
+        ensures failed { IsErrOf result ShelfFault.Failed
+            → Rose (deck_of self.old).faults (deck_of self.new).faults }
+        ensures absent { result ≡ Ok Found.Absent
+            → Rose (deck_of self.old).misses (deck_of self.new).misses }
+        ensures long { result ≡ Ok Found.Long
+            → Rose (deck_of self.old).longs (deck_of self.new).longs }
+        ensures within { IfOk result (IsWithin cap) }
+        ensures told { IfSome (Some (deck_of self.old).files) (λ files.
+            IfOk result (IsFoundIn files name.now cap)) }
+    {
         self.calls = self.calls.saturating_add(1);
         if is_listed(&self.fails, self.calls) {
             self.faults = self.faults.saturating_add(1);

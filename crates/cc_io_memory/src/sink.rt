@@ -1,5 +1,5 @@
 // A sink in memory with a room, whose puts fail where a list says so.
-ghost use Rattle.std.specs.Prelude.{◌≡◌, ◌≤◌, ◌<◌, ◌+◌, ◌++◌, [], Some, Ok, Err, IfOk, OnOk, IsErrOf, length, take, cond, drop};
+ghost use Rattle.std.specs.Prelude.{◌≡◌, ◌≤◌, ◌-◌, ◌↔◌, ◌++◌, [], Some, IfOk, OnOk, IsErrOf, length, take, true};
 ghost use Rattle.std.specs.Io.KnownBytes.{append_known};
 ghost use Rattle.cc_io.specs.Count.{Rose};
 ghost use Rattle.cc_io.specs.Sink.{GrowsByPrefix};
@@ -78,7 +78,24 @@ impl Sink for MemorySink {
     ghost faults = { λ s. (vessel_of s).faults };
 
     /// Takes no memory. Fails just where the number of this put is in the list, or the bytes do not fit.
-    fn put(&mut self, bytes: &[u8]) -> Result<(), SinkFault> {
+    fn put(&mut self, bytes: &[u8]) -> Result<(), SinkFault>
+        // Just which puts fail, and what stands after each.
+        ensures fails { IsErrOf result SinkFault.Failed
+            ↔ (put_fails (vessel_of self.old) bytes.now ≡ true) }
+        ensures after { vessel_of self.new ≡ after_put (vessel_of self.old) bytes.now }
+        ensures never { IsErrOf result SinkFault.Memory → ⊥ }
+
+        // The clauses of the trait.
+        ensures faults_stay { (vessel_of self.old).faults ≤ (vessel_of self.new).faults }
+        ensures ok { OnOk result (Some (vessel_of self.new).held
+            ≡ append_known (Some (vessel_of self.old).held) bytes.now) }
+        ensures failed { IsErrOf result SinkFault.Failed
+            → Rose (vessel_of self.old).faults (vessel_of self.new).faults }
+        ensures prefix { IsErrOf result SinkFault.Failed
+            → GrowsByPrefix (Some (vessel_of self.old).held) (Some (vessel_of self.new).held) bytes.now }
+        ensures memory { IsErrOf result SinkFault.Memory
+            → Some (vessel_of self.new).held ≡ Some (vessel_of self.old).held }
+    {
         self.calls = self.calls.saturating_add(1);
         if is_listed(&self.fails, self.calls) {
             self.faults = self.faults.saturating_add(1);

@@ -1,0 +1,5 @@
+pub mod ActivationTable
+pub mod CellTable
+pub mod Keys
+pub mod Opened
+pub mod Slots
