@@ -5,8 +5,8 @@
 #![tactic(auto)]
 
 mod fault;
-mod generate;
+mod project;
 mod texts;
 
 pub use fault::GenFault;
-pub use generate::generate;
+pub use project::generate;

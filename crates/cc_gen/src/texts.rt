@@ -9,8 +9,8 @@ pub const FUNCTIONS: u32 = 20;
 
 // Function j of component i of n.
 fn function_text(alloc: Global, n: u32, i: u32, j: u32) -> Result<String, AllocError>
-    requires { i ≤ n }
-    requires { n ≤ 60 }
+    requires at { i ≤ n }
+    requires n { n ≤ 60 }
     ensures { IfOk result (λ text. string_bytes text ≡ spec.function_text n i j) }
 {
     if i < n {
@@ -35,6 +35,7 @@ fn ending(alloc: Global, i: u32, j: u32) -> Result<String, AllocError>
 }
 
 /// The file of component i of n.
+#[tactic(auto, using(crate::proofs::More::functions_more))]
 pub fn unit_text(alloc: Global, n: u32, i: u32) -> Result<String, AllocError>
     requires at { i ≤ n }
     requires n { n ≤ 60 }
@@ -66,6 +67,7 @@ fn push_comma(text: &mut String, before: u32) -> Result<(), AllocError>
 }
 
 // The entries, with commas between.
+#[tactic(auto, using(crate::proofs::More::entries_more))]
 fn entries_text(alloc: Global) -> Result<String, AllocError>
     ensures { IfOk result (λ text. string_bytes text ≡ spec.entries_text 20) }
 {
@@ -85,6 +87,7 @@ fn entry_text(alloc: Global, j: u32) -> Result<String, AllocError>
 }
 
 // A call of each entry with this argument.
+#[tactic(auto, using(crate::proofs::More::calls_more))]
 fn calls_text(alloc: Global, argument: u32) -> Result<String, AllocError>
     ensures { IfOk result (λ text. string_bytes text ≡ spec.calls_text argument 20) }
 {
@@ -109,6 +112,7 @@ fn component_text(alloc: Global, i: u32) -> Result<String, AllocError>
     format!(in alloc; "\n[[component]]\nname = \"C{i}\"\nfiles = [\"c{i}.c\"]\n")
 }
 
+#[tactic(auto, using(crate::proofs::More::components_more))]
 fn components_text(alloc: Global, n: u32) -> Result<String, AllocError>
     requires { n ≤ 60 }
     ensures { IfOk result (λ text. string_bytes text ≡ spec.components_text n) }

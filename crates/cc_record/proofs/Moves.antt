@@ -3,6 +3,7 @@ use Rattle.std.proofs.Common.{◌≡◌, ◌≢◌, ℕ, ◌<◌, ◌-◌, List,
 use Rattle.std.specs.Prelude.{nat_eq, slice_get, ◌&&◌, ◌↔◌, Contains}
 use Rattle.std.proofs.lemmas.Bool.{cases_eq, ne_eqb}
 use Rattle.cc_program.specs.declared.function.FuncId.{FuncId}
+use Rattle.cc_program.specs.declared.program.Program.{Program}
 use Rattle.cc_meaning.specs.declared.event.Cell.{Cell}
 use Rattle.cc_meaning.specs.declared.event.Event.{Event}
 use Rattle.cc_meaning.specs.declared.event.Event.TheVariants.{Enter, Pass, Def, Use, Leave, Gone, Ask}
@@ -13,6 +14,7 @@ use Rattle.cc_record_laws.specs.Roles.{Roles}
 use Rattle.cc_record_laws.specs.Past.{same_cell}
 use Rattle.cc_record_laws.specs.Kept.{Kept, start, without, entry_of, passing_by, return_now, named_by}
 use Rattle.cc_record_laws.specs.Dropping.{RecordedFrom}
+use Rattle.cc_record_laws.specs.Exercised.{Exercised}
 use Rattle.cc_record_laws.specs.Orderly.{IsOrderly}
 use Rattle.cc_record_laws.specs.Watching.{Asks, IsSame, StandsFor, Steps, Distinct, Watching}
 use Rattle.cc_record_laws.proofs.Steps.{watches, both_same}
@@ -25,7 +27,7 @@ use Rattle.cc_record_tables.specs.ActivationTable.{answers_of, SameAnswers}
 use Rattle.cc_record.specs.declared.recorder.Recorder.{Recorder}
 use Rattle.cc_record.specs.Asked.{is_asked}
 use Rattle.cc_record.specs.Roles.{roles_of, numbered}
-use Rattle.cc_record.specs.Recording.{kept_of, roles, AreFew, Stands, Keeps, Does, Stays, due, wrote, fresh, entry_by, passing, argument_now, returned_now}
+use Rattle.cc_record.specs.Recording.{kept_of, program_of, roles, AreFew, Stands, Keeps, Does, Stays, due, wrote, fresh, entry_by}
 use Rattle.cc_record.specs.Steps as gives
 use Rattle.cc_record.proofs.SlotLaws.{due_defined}
 use Rattle.cc_record.proofs.EventSteps.{Adds, GivesOne, adds_now, gives_none, none_def, none_pass, none_gone, none_ask, none_leave, gives_enter, gives_use, gives_leave, put_due, put_wrote, put_fresh, gone_due, gone_wrote, gone_fresh, after_read, read_due, read_wrote, read_fresh_cell}
@@ -35,7 +37,7 @@ same_list old new e q = (λ h. inl (subst (λ (l : List Coupling). Contains l q)
 
 module _ (old new : Recorder) (keeps : Keeps old new) where
   -- only cells have changed
-  module _ (open : new.open.items ≡ old.open.items) (acts : SameAnswers (answers_of old.activations) (answers_of new.activations)) where
+  module _ (opens : new.opened.items ≡ old.opened.items) (acts : SameAnswers (answers_of old.activations) (answers_of new.activations)) where
     -- a cell is written
     pub define_does : (o : ℕ) (x : Cell) (a : ℕ) → new.seen ≡ old.seen
         → ((c : Cell) → slot_of new.cells c ≡ cond (same_cell x c) (Some (defined o)) (slot_of old.cells c)) → Does old new (Def o x a)
@@ -49,7 +51,7 @@ module _ (old new : Recorder) (keeps : Keeps old new) where
           read = λ b u i. acts.read b u;
           entry = λ b. acts.entry b;
           passing = λ b n. acts.passing b n;
-          stack = ap reverse open;
+          stack = ap reverse opens;
         };
         adds = adds_now (roles old) (kept_of old) (Def o x a) None old.seen new.seen (gives_none (roles old) (kept_of old) (Def o x a) (none_def (roles old) (kept_of old) o x a)) (same_list old.seen new.seen seen);
       };
@@ -72,7 +74,7 @@ module _ (old new : Recorder) (keeps : Keeps old new) where
               read = λ b u i. acts.read b u;
               entry = λ b. acts.entry b;
               passing = λ b m. acts.passing b m;
-              stack = ap reverse open;
+              stack = ap reverse opens;
             };
             adds = adds_now (roles old) (kept_of old) (Pass s n x a) None old.seen new.seen (gives_none (roles old) (kept_of old) (Pass s n x a) (none_pass (roles old) (kept_of old) s n x a)) (same_list old.seen new.seen seen);
           };
@@ -90,7 +92,7 @@ module _ (old new : Recorder) (keeps : Keeps old new) where
           read = λ b u i. acts.read b u;
           entry = λ b. acts.entry b;
           passing = λ b m. acts.passing b m;
-          stack = ap reverse open;
+          stack = ap reverse opens;
         };
         adds = adds_now (roles old) (kept_of old) (Gone n) None old.seen new.seen (gives_none (roles old) (kept_of old) (Gone n) (none_gone (roles old) (kept_of old) n)) (same_list old.seen new.seen seen);
       };
@@ -108,14 +110,14 @@ module _ (old new : Recorder) (keeps : Keeps old new) where
           read = λ b u i. acts.read b u;
           entry = λ b. acts.entry b;
           passing = λ b m. acts.passing b m;
-          stack = ap reverse open;
+          stack = ap reverse opens;
         };
         adds = adds_now (roles old) (kept_of old) (Ask s g a) None old.seen new.seen (gives_none (roles old) (kept_of old) (Ask s g a) (none_ask (roles old) (kept_of old) s g a)) (same_list old.seen new.seen seen);
       };
     }
 
   -- a cell is read
-  module _ (open : new.open.items ≡ old.open.items) (o : ℕ) (x : Cell) (a : ℕ)
+  module _ (opens : new.opened.items ≡ old.opened.items) (o : ℕ) (x : Cell) (a : ℕ)
       (cells : (c : Cell) → slot_of new.cells c ≡ cond (same_cell x c) (after_read ((roles old).component o) (slot_of old.cells x)) (slot_of old.cells c))
       (entry : (b : ℕ) → (answers_of new.activations).entry b ≡ (answers_of old.activations).entry b)
       (passing : (b n : ℕ) → (answers_of new.activations).passing b n ≡ (answers_of old.activations).passing b n)
@@ -132,7 +134,7 @@ module _ (old new : Recorder) (keeps : Keeps old new) where
           read = read;
           entry = entry;
           passing = passing;
-          stack = ap reverse open;
+          stack = ap reverse opens;
         };
         adds = adds_now (roles old) (kept_of old) (Use o x a) (gives.read (roles old) o x (slot_of old.cells x)) old.seen new.seen
             (gives_use (roles old) (kept_of old) o x a (slot_of old.cells x) refl refl) adds;
@@ -141,12 +143,12 @@ module _ (old new : Recorder) (keeps : Keeps old new) where
 
   -- an activation is entered or left
   module _ (cells : (c : Cell) → slot_of new.cells c ≡ slot_of old.cells c) where
-    pub enter_does : (s : Option ℕ) (g : FuncId) (a : ℕ) → reverse new.open.items ≡ a ∷ reverse old.open.items
+    pub enter_does : (s : Option ℕ) (g : FuncId) (a : ℕ) → reverse new.opened.items ≡ a ∷ reverse old.opened.items
         → ((b : ℕ) → (answers_of new.activations).entry b ≡ cond (nat_eq a b) (entry_by s g) ((answers_of old.activations).entry b))
         → ((b n : ℕ) → (answers_of new.activations).passing b n ≡ cond (nat_eq a b) (passing_by (roles old) (kept_of old) n (Enter s g a)) ((answers_of old.activations).passing b n))
         → ((b u : ℕ) → (answers_of new.activations).read b u ≡ (answers_of old.activations).read b u)
         → Adds (gives.call (roles old) s g) old.seen new.seen → Does old new (Enter s g a)
-    enter_does s g a open entry passing read adds = record {
+    enter_does s g a opens entry passing read adds = record {
       keeps = keeps;
       steps = λ few once. record {
         next = record {
@@ -156,7 +158,7 @@ module _ (old new : Recorder) (keeps : Keeps old new) where
           read = λ b u i. read b u;
           entry = λ b. entry b ∙ by s b;
           passing = passing;
-          stack = open;
+          stack = opens;
         };
         adds = adds_now (roles old) (kept_of old) (Enter s g a) (gives.call (roles old) s g) old.seen new.seen (gives_enter (roles old) (kept_of old) s g a) adds;
       };
@@ -174,10 +176,10 @@ module _ (old new : Recorder) (keeps : Keeps old new) where
     leave_one (Some r) a = gives_leave (roles old) (kept_of old) r a
     leave_one None a = gives_none (roles old) (kept_of old) (Leave None a) (none_leave (roles old) (kept_of old) a)
 
-    pub leave_does : (r : Option ℕ) (a : ℕ) → (Distinct (reverse old.open.items) → reverse new.open.items ≡ without a (reverse old.open.items))
+    pub leave_does : (r : Option ℕ) (a : ℕ) → (Distinct (reverse old.opened.items) → reverse new.opened.items ≡ without a (reverse old.opened.items))
         → SameAnswers (table.without a (answers_of old.activations)) (answers_of new.activations)
         → Adds (left_gives r a) old.seen new.seen → Does old new (Leave r a)
-    leave_does r a open acts adds = record {
+    leave_does r a opens acts adds = record {
       keeps = keeps;
       steps = λ few once. record {
         next = record {
@@ -187,7 +189,7 @@ module _ (old new : Recorder) (keeps : Keeps old new) where
           read = λ b u i. acts.read b u;
           entry = λ b. acts.entry b;
           passing = λ b m. acts.passing b m;
-          stack = open once;
+          stack = opens once;
         };
         adds = adds_now (roles old) (kept_of old) (Leave r a) (left_gives r a) old.seen new.seen (leave_one r a) adds;
       };
@@ -196,33 +198,68 @@ module _ (old new : Recorder) (keeps : Keeps old new) where
 -- ---- what a recorder stands for
 
 -- after the event it stands for the list with the event
-pub stands_more : (old new : Recorder) (e : Event) (told : List Event) → Does old new e → Stands old told → Stands new (told ++ e ∷ [])
-stands_more old new e told d s = record {
+pub stands_more : (P : Program) (old new : Recorder) (e : Event) (told : List Event) → Does old new e → Stands P old told → Stands P new (told ++ e ∷ [])
+stands_more P old new e told d s = record {
+  program = d.keeps.program ∙ s.program;
   asks = asks';
   stands = λ few orderly.
-      let few' : AreFew (roles old) = subst (λ p. AreFew (roles_of p)) d.keeps.program few in
+      let few' : AreFew (roles old) = subst (λ (p : Program). AreFew (roles_of p)) d.keeps.program few in
       let before = watches.front told e orderly in
       let for = s.stands few' before in
-      let once : Distinct (reverse old.open.items) = subst Distinct (sym for.same.stack) (watches.once (roles old) told before) in
+      let once : Distinct (reverse old.opened.items) = subst Distinct (sym for.same.stack) (watches.once (roles old) told before) in
       let more = watches.more (roles old) (is_asked old.asked.items) s.asks (kept_of old) (kept_of new) old.seen new.seen e (d.steps few' once) told for in
-      subst (λ p. StandsFor (roles_of p) (is_asked new.asked.items) (kept_of new) new.seen (told ++ e ∷ [])) (sym d.keeps.program)
+      subst (λ (p : Program). StandsFor (roles_of p) (is_asked new.asked.items) (kept_of new) new.seen (told ++ e ∷ [])) (sym d.keeps.program)
       (subst (λ (l : List Bool). StandsFor (roles old) (is_asked l) (kept_of new) new.seen (told ++ e ∷ [])) (sym d.keeps.asked) more);
 }
   where
     asks' : Asks (roles new) (is_asked new.asked.items)
-    asks' = subst (λ p. Asks (roles_of p) (is_asked new.asked.items)) (sym d.keeps.program) (subst (λ (l : List Bool). Asks (roles old) (is_asked l)) (sym d.keeps.asked) s.asks)
+    asks' = subst (λ (p : Program). Asks (roles_of p) (is_asked new.asked.items)) (sym d.keeps.program) (subst (λ (l : List Bool). Asks (roles old) (is_asked l)) (sym d.keeps.asked) s.asks)
 
 -- where it stays it stands for what it stood for
-pub stands_still : (old new : Recorder) (told : List Event) → Stays old new → Stands old told → Stands new told
-stands_still old new told d s = record {
-  asks = subst (λ p. Asks (roles_of p) (is_asked new.asked.items)) (sym d.keeps.program) (subst (λ (l : List Bool). Asks (roles old) (is_asked l)) (sym d.keeps.asked) s.asks);
+pub stands_still : (P : Program) (old new : Recorder) (told : List Event) → Stays old new → Stands P old told → Stands P new told
+stands_still P old new told d s = record {
+  program = d.keeps.program ∙ s.program;
+  asks = asks';
   stands = λ few orderly.
-      let few' : AreFew (roles old) = subst (λ p. AreFew (roles_of p)) d.keeps.program few in
+      let few' : AreFew (roles old) = subst (λ (p : Program). AreFew (roles_of p)) d.keeps.program few in
       let for = s.stands few' orderly in
       let still : StandsFor (roles old) (is_asked old.asked.items) (kept_of new) new.seen told = record {
         same = both_same (is_asked old.asked.items) (kept_of new) (kept_of old) _ d.same for.same;
         exact = λ q. subst (λ (l : List Coupling). Contains l q ↔ RecordedFrom (roles old) start told q) (sym d.seen) (for.exact q);
       } in
-      subst (λ p. StandsFor (roles_of p) (is_asked new.asked.items) (kept_of new) new.seen told) (sym d.keeps.program)
+      subst (λ (p : Program). StandsFor (roles_of p) (is_asked new.asked.items) (kept_of new) new.seen told) (sym d.keeps.program)
       (subst (λ (l : List Bool). StandsFor (roles old) (is_asked l) (kept_of new) new.seen told) (sym d.keeps.asked) still);
 }
+  where
+    asks' : Asks (roles new) (is_asked new.asked.items)
+    asks' = subst (λ (p : Program). Asks (roles_of p) (is_asked new.asked.items)) (sym d.keeps.program) (subst (λ (l : List Bool). Asks (roles old) (is_asked l)) (sym d.keeps.asked) s.asks)
+
+-- its set is what the list exercises
+pub seen_is : (P : Program) (r : Recorder) (told : List Event) → Stands P r told → AreFew (roles_of P) → IsOrderly told → (q : Coupling) → Contains r.seen q ↔ Exercised (roles_of P) told q
+seen_is P r told s few orderly q =
+    let few' : AreFew (roles r) = subst (λ (p : Program). AreFew (roles_of p)) (sym s.program) few in
+    subst (λ (p : Program). Contains r.seen q ↔ Exercised (roles_of p) told q) s.program
+    (watches.has (roles r) (is_asked r.asked.items) (kept_of r) r.seen told (s.stands few' orderly) orderly q)
+
+-- with empty tables it stands for the empty list
+pub stands_empty : (P : Program) (r : Recorder) → program_of r ≡ P → Asks (roles r) (is_asked r.asked.items)
+    → ((c : Cell) → slot_of r.cells c ≡ None) → SameAnswers table.nothing (answers_of r.activations) → r.opened.items ≡ [] → r.seen ≡ [] → Stands P r []
+stands_empty P r is asks cells acts opens seen = record {
+  program = is;
+  asks = asks;
+  stands = λ few orderly. record {
+    same = record {
+      due = λ c n. ap (λ s. due s n) (cells c);
+      wrote = λ c. ap wrote (cells c);
+      fresh = λ c. ap fresh (cells c);
+      read = λ a u i. acts.read a u;
+      entry = λ a. acts.entry a;
+      passing = λ a n. acts.passing a n;
+      stack = ap reverse opens;
+    };
+    exact = λ q. (λ h. absurd (none_in q (subst (λ (l : List Coupling). Contains l q) seen h)), λ h. absurd h);
+  };
+}
+  where
+    none_in : (q : Coupling) → Contains {X = Coupling} [] q → ⊥
+    none_in q h = let lt = h.1 in omega arith

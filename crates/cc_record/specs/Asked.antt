@@ -1,7 +1,8 @@
 -- Which names' reads are asked for.
-use Rattle.std.specs.Prelude.{◌≡◌, ℕ, List, Bool, true, Option, Some, None, Contains, slice_get, length}
+use Rattle.std.specs.Prelude.{◌≡◌, ◌<◌, ℕ, List, Bool, true, Option, Some, None, Contains, slice_get}
 use Rattle.cc_program.specs.declared.program.Program.{Program}
-use Rattle.cc_roles.specs.Names.{named}
+use Rattle.cc_roles.specs.Calls.{arguments}
+use Rattle.cc_roles.specs.Names.{named, returned}
 
 abbrev pub or_true : Option Bool → Bool
 or_true (Some b) = b
@@ -23,3 +24,8 @@ IsMarked asked None = Unit {0}
 -- the names that these arguments are
 abbrev pub AreMarked : Program → List Bool → List ℕ → Type 0
 AreMarked p asked arguments = (arg : ℕ) → Contains arguments arg → IsMarked asked (named p arg)
+
+-- the names that the arguments and returns of the first `count` nodes are
+pub record MarkedTo (p : Program) (asked : List Bool) (count : ℕ) : Type 0 where
+  pub arguments : (n : ℕ) → n < count → AreMarked p asked (arguments p.arena n)
+  pub returned : (n : ℕ) → n < count → IsMarked asked (returned p n)

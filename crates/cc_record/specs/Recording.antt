@@ -1,6 +1,7 @@
 -- What a recorder stands for.
 use Rattle.std.specs.Prelude.{◌≡◌, ◌<◌, ◌-◌, ℕ, List, [], Option, Some, None, map, reverse, length, slice_get}
 use Rattle.cc_program.specs.declared.function.FuncId.{FuncId}
+use Rattle.cc_program.specs.declared.program.Program.{Program}
 use Rattle.cc_meaning.specs.declared.event.Event.{Event}
 use Rattle.cc_record_laws.specs.declared.kept.Entry.{Entry}
 use Rattle.cc_record_laws.specs.declared.kept.Passed.{Passed}
@@ -39,18 +40,23 @@ kept_of r = record {
   read = λ a u. (answers_of r.activations).read a u;
   entry = λ a. (answers_of r.activations).entry a;
   passing = λ a n. (answers_of r.activations).passing a n;
-  stack = reverse r.open.items;
+  stack = reverse r.opened.items;
 }
 
+-- the program whose runs the recorder watches
+abbrev pub program_of : Recorder → Program
+program_of r = r.program.now
+
 abbrev pub roles : Recorder → Roles
-roles r = roles_of r.program.now
+roles r = roles_of (program_of r)
 
 -- there are at most 64 components
 abbrev pub AreFew : Roles → Type 0
 AreFew R = (o : ℕ) → R.component o < 64
 
--- The recorder stands for the list, if the list is orderly and components are few.
-pub record Stands (r : Recorder) (told : List Event) : Type 0 where
+-- The recorder stands for the list, of runs of the program, if the list is orderly and components are few.
+pub record Stands (P : Program) (r : Recorder) (told : List Event) : Type 0 where
+  pub program : program_of r ≡ P
   pub asks : Asks (roles r) (is_asked r.asked.items)
   pub stands : AreFew (roles r) → IsOrderly told → StandsFor (roles r) (is_asked r.asked.items) (kept_of r) r.seen told
 
@@ -62,7 +68,7 @@ pub record Keeps (old new : Recorder) : Type 0 where
 -- the event makes the new recorder of the old one, where no activation is open twice
 pub record Does (old new : Recorder) (e : Event) : Type 0 where
   pub keeps : Keeps old new
-  pub steps : AreFew (roles old) → Distinct (reverse old.open.items)
+  pub steps : AreFew (roles old) → Distinct (reverse old.opened.items)
       → Steps (roles old) (is_asked old.asked.items) (kept_of old) old.seen (kept_of new) new.seen e
 
 -- both answer alike

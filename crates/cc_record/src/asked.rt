@@ -45,9 +45,9 @@ fn mark_all(asked: &mut Vec<bool>, program: &Program, arguments: &[u32])
 pub fn asked_names(alloc: Global, program: &Program) -> Result<Vec<bool>, Memory>
     ensures { IfOk result (λ asked. Asks (roles_of program.now) (spec.is_asked asked.items)) }
 {
-    let nodes = program.arena().nodes.len();
+    let nodes = program.arena().count()?;
     let mut asked = vec![in alloc; false; nodes as usize]?;
-    for n in 0..program.occurrences() {
+    for n in 0..nodes {
         mark_all(&mut asked, program, arguments(program, n));
         mark(&mut asked, returned(program, n));
     }

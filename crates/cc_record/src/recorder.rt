@@ -3,6 +3,7 @@ ghost use Rattle.std.specs.Prelude.{◌≡◌, ◌↔◌, ◌⊎◌, ◌∷◌, 
 ghost use Rattle.cc_meaning.specs.declared.event.Event.{Event};
 ghost use Rattle.cc_meaning.specs.declared.event.Event.TheVariants as event;
 ghost use Rattle.cc_meaning.specs.declared.coupling.Coupling.{Coupling};
+ghost use Rattle.cc_program.specs.declared.program.Program.{Program};
 ghost use Rattle.cc_record_laws.specs.Exercised.{Exercised};
 ghost use Rattle.cc_record_laws.specs.Orderly.{IsOrderly};
 ghost use Rattle.cc_record.specs.Roles.{numbered, roles_of};
@@ -15,7 +16,7 @@ use cc_base::Memory;
 use cc_meaning::{Cell, Event, Watch};
 use cc_program::{FuncId, Program};
 use cc_record_laws::{Entry, Passed};
-use cc_record_tables::{Activations, Cells, CouplingSet, Slot, close, open};
+use cc_record_tables::{Activations, Cells, CouplingSet, Slot, begin, finish};
 use cc_roles::{arguments, component, named, returned};
 use std::alloc::Global;
 
@@ -28,14 +29,14 @@ pub struct Recorder<'p> {
     asked: Vec<bool>,
     cells: Cells,
     activations: Activations,
-    open: Vec<u64>,
+    opened: Vec<u64>,
     seen: CouplingSet,
 }
 
 impl<'p> Recorder<'p> {
     /// A recorder that has seen nothing.
     pub fn new(alloc: Global, program: &'p Program) -> Result<Recorder<'p>, Memory>
-        ensures { IfOk result (λ recorder. (recorder.program.now ≡ program.now) × Stands recorder []) }
+        ensures { IfOk result (λ recorder. Stands program.now recorder []) }
     {
         Ok(Recorder {
             alloc,
@@ -43,26 +44,26 @@ impl<'p> Recorder<'p> {
             asked: asked_names(alloc, program)?,
             cells: Cells::new(alloc),
             activations: Activations::new(alloc),
-            open: Vec::new(alloc),
+            opened: Vec::new(alloc),
             seen: CouplingSet::new(alloc),
         })
     }
 
     /// The couplings that the events exercise. Takes no memory.
     pub fn exercised(&self) -> &CouplingSet
-        ensures { (told : List Event) → Stands self.now told → AreFew (roles_of self.now.program.now) → IsOrderly told
-            → (q : Coupling) → Contains result.now q ↔ Exercised (roles_of self.now.program.now) told q }
+        ensures { (p : Program) (told : List Event) → Stands p self.now told → AreFew (roles_of p) → IsOrderly told
+            → (q : Coupling) → Contains result.now q ↔ Exercised (roles_of p) told q }
     {
         &self.seen
     }
 
     /// Forgets all events. Takes no memory.
     pub fn reset(&mut self)
-        ensures { (told : List Event) → Stands self.old told → Stands self.new [] }
+        ensures { (p : Program) (told : List Event) → Stands p self.old told → Stands p self.new [] }
     {
         self.cells = Cells::new(self.alloc);
         self.activations = Activations::new(self.alloc);
-        self.open.clear();
+        self.opened.clear();
         self.seen.clear();
     }
 
@@ -72,7 +73,7 @@ impl<'p> Recorder<'p> {
     {
         match named(self.program, argument) {
             None => Some(argument),
-            Some(name) => match self.open.last() {
+            Some(name) => match self.opened.last() {
                 Some(act) => self.activations.read(*act, name),
                 None => None,
             },
@@ -99,10 +100,10 @@ impl<'p> Recorder<'p> {
     {
         let passing = self.passing(site)?;
         self.activations.make_place(act)?;
-        open(&mut self.open, act)?;
+        begin(&mut self.opened, act)?;
         if let Some(call) = gives::call(self.program, site, callee) {
             if self.seen.add(&call).is_err() {
-                self.open.pop();
+                self.opened.pop();
                 return Err(Memory);
             }
         }
@@ -177,7 +178,7 @@ impl<'p> Recorder<'p> {
             }
         }
         self.activations.end(act);
-        close(&mut self.open, act);
+        finish(&mut self.opened, act);
         Ok(())
     }
 }
@@ -213,9 +214,9 @@ fn wrote(slot: Option<Slot>) -> Option<u32>
 }
 
 impl Watch for Recorder<'_> {
-    ghost use Rattle.cc_record.specs.Recording.{Stands};
+    ghost use Rattle.cc_record.specs.Recording.{Stands, program_of};
 
-    ghost stands_for = { λ s told. Stands s told };
+    ghost stands_for = { λ s told. Stands (program_of s) s told };
 
     fn event(&mut self, event: &Event) -> Result<(), Memory> {
         match *event {

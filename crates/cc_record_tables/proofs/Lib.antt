@@ -1,1 +1,4 @@
+pub mod ActivationFacts
 pub mod CellFacts
+pub mod KeyFacts
+pub mod OpenFacts

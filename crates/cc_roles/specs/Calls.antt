@@ -42,7 +42,7 @@ abbrev pub fate : Program → ℕ → Option Node → Fate
 fate p n (Some (node.Paren e)) = fates.Handed
 fate p n (Some (node.Plain e)) = fates.Dropped
 fate p n (Some (node.Comma a b)) = fates.Dropped
-fate p n (Some (node.Cast type e)) = cond (is_void p type) fates.Dropped fates.Used
+fate p n (Some (node.Cast t e)) = cond (is_void p t) fates.Dropped fates.Used
 fate p n (Some (node.For first condition step body)) = cond (is_it first n || is_it step n) fates.Dropped fates.Used
 fate p n other = fates.Used
 

@@ -16,12 +16,21 @@ pub fn arguments(program: &Program, site: u32) -> &[u32]
     }
 }
 
+fn is_void_shape(shape: Shape) -> bool
+    ensures { result ≡ spec.is_void_shape shape }
+{
+    match shape {
+        Shape::Void(_) => true,
+        _ => false,
+    }
+}
+
 // Whether the type name names the type void.
 fn is_void(program: &Program, type_name: u32) -> bool
     ensures { result ≡ spec.is_void program.now type_name }
 {
     match program.kind_of(type_name) {
-        Some(ty) => matches!(program.types().shape(ty), Shape::Void(_)),
+        Some(ty) => is_void_shape(program.types().shape(ty)),
         None => false,
     }
 }
@@ -35,6 +44,15 @@ pub enum Fate {
     Dropped,
     /// It is used.
     Used,
+}
+
+fn is_it(part: Option<u32>, node: u32) -> bool
+    ensures { result ≡ spec.is_it part node }
+{
+    match part {
+        Some(part) => part == node,
+        None => false,
+    }
 }
 
 // What becomes of the value of the part `node` of another node.
@@ -52,7 +70,7 @@ fn fate(program: &Program, node: u32, around: Option<Node>) -> Fate
             }
         }
         Some(Node::For(first, _, step, _)) => {
-            if first == Some(node) || step == Some(node) {
+            if is_it(first, node) || is_it(step, node) {
                 Fate::Dropped
             } else {
                 Fate::Used
@@ -64,6 +82,7 @@ fn fate(program: &Program, node: u32, around: Option<Node>) -> Fate
 
 /// Whether the value of a call is used. It is not where the call, parentheses aside, is a whole expression statement, a
 /// whole first or third clause of a `for` or an operand of the comma there, or the operand of a cast to void.
+#[tactic(auto, using(crate::proofs::Steps::used_step, crate::proofs::Steps::used_dropped, crate::proofs::Steps::used_used, crate::proofs::Steps::used_none, crate::proofs::Steps::used_end))]
 pub fn is_used(program: &Program, site: u32) -> bool
     ensures { result ≡ spec.is_used program.now site }
 {

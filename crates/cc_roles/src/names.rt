@@ -17,6 +17,7 @@ fn inside(program: &Program, node: u32) -> Option<u32>
 }
 
 // The node, parentheses aside.
+#[tactic(auto, using(crate::proofs::Steps::bare_step, crate::proofs::Steps::bare_stop, crate::proofs::Steps::bare_end))]
 fn bare(program: &Program, node: u32) -> u32
     ensures { result ≡ spec.bare program.now.arena node }
 {

@@ -19,8 +19,8 @@ one_if true = 1
 one_if false = 0
 
 -- a verdict with one more row or group, by whether it has a mark and reasons
-abbrev pub with : Verdict → (is_marked is_reasoned : Bool) → Verdict
-with v is_marked is_reasoned = record {
+abbrev pub one_more : Verdict → (is_marked is_reasoned : Bool) → Verdict
+one_more v is_marked is_reasoned = record {
   covered = v.covered + one_if is_marked;
   justified = v.justified + one_if (not is_marked && is_reasoned);
   listed = v.listed + 1;
@@ -43,7 +43,7 @@ module _ (rows : List Coupling) (marks : List (Option ℕ)) (reasons : Option (L
   rows_to calls zero = none
   rows_to calls (suc count) =
       cond (same calls (is_call (slice_get rows count)))
-      (with (rows_to calls count) (is_some (mark marks count)) (has_reason reasons count))
+      (one_more (rows_to calls count) (is_some (mark marks count)) (has_reason reasons count))
       (rows_to calls count)
 
 abbrev pub is_it : Option ℕ → ℕ → Bool
@@ -87,7 +87,7 @@ new_definition rows row = if_new rows row (definition_of (slice_get rows row))
 module _ (rows : List Coupling) (marks : List (Option ℕ)) (reasons : Option (List (Option RowReason))) where
   -- the verdict with one more definition, over all its rows
   abbrev pub with_definition : Verdict → Option ℕ → Verdict
-  with_definition v (Some d) = with v (marked_to rows marks d (length rows)) (reasoned_to rows reasons d (length rows))
+  with_definition v (Some d) = one_more v (marked_to rows marks d (length rows)) (reasoned_to rows reasons d (length rows))
   with_definition v None = v
 
   -- the verdict on the definitions of the first `count` rows, each once

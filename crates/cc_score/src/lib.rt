@@ -4,9 +4,9 @@
 //! how many justified. [`conflict`] finds a row that has both a reason and a mark.
 #![tactic(auto)]
 
-mod conflict;
+mod clashing;
+mod criteria;
 mod marks;
-mod verdicts;
 
-pub use conflict::{Conflict, conflict};
-pub use verdicts::verdicts;
+pub use clashing::{Conflict, conflict};
+pub use criteria::verdicts;

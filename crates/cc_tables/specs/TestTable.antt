@@ -15,34 +15,34 @@ rows_or None = []
 abbrev pub rows_of : Scores → ℕ → List ℕ
 rows_of scores test = rows_or (slice_get scores.exercised test)
 
-abbrev pub numbered_text : (test requirement end : List ℕ) → Option ℕ → List ℕ
-numbered_text test requirement end (Some row) = record_text (test ∷ requirement ∷ decimal (row + 1) ∷ end ∷ [])
-numbered_text test requirement end None = []
+abbrev pub numbered_text : (test requirement ending : List ℕ) → Option ℕ → List ℕ
+numbered_text test requirement ending (Some row) = record_text (test ∷ requirement ∷ decimal (row + 1) ∷ ending ∷ [])
+numbered_text test requirement ending None = []
 
 -- the records of the first `count` of the rows of a test and a requirement, which are printed from 1
-abbrev pub rows_to : (test requirement : List ℕ) → (rows : List ℕ) → (end : List ℕ) → (count : ℕ) → List ℕ
-rows_to test requirement rows end zero = []
-rows_to test requirement rows end (suc count) = rows_to test requirement rows end count ++ numbered_text test requirement end (slice_get rows count)
+abbrev pub rows_to : (test requirement : List ℕ) → (rows : List ℕ) → (ending : List ℕ) → (count : ℕ) → List ℕ
+rows_to test requirement rows ending zero = []
+rows_to test requirement rows ending (suc count) = rows_to test requirement rows ending count ++ numbered_text test requirement ending (slice_get rows count)
 
 -- the records of a test and a requirement: one where there are no rows
-abbrev pub rows_text : (test requirement : List ℕ) → (rows : List ℕ) → (end : List ℕ) → List ℕ
-rows_text test requirement rows end =
-    cond (nat_eq (length rows) 0) (record_text (test ∷ requirement ∷ codes "-" ∷ end ∷ [])) (rows_to test requirement rows end (length rows))
+abbrev pub rows_text : (test requirement : List ℕ) → (rows : List ℕ) → (ending : List ℕ) → List ℕ
+rows_text test requirement rows ending =
+    cond (nat_eq (length rows) 0) (record_text (test ∷ requirement ∷ codes "-" ∷ ending ∷ [])) (rows_to test requirement rows ending (length rows))
 
-abbrev pub required_text : (test : List ℕ) → (rows : List ℕ) → (end : List ℕ) → Option (List ℕ) → List ℕ
-required_text test rows end (Some requirement) = rows_text test requirement rows end
-required_text test rows end None = []
+abbrev pub required_text : (test : List ℕ) → (rows : List ℕ) → (ending : List ℕ) → Option (List ℕ) → List ℕ
+required_text test rows ending (Some requirement) = rows_text test requirement rows ending
+required_text test rows ending None = []
 
 -- the records of a test and the first `count` of its requirements
-abbrev pub requirements_to : (test : List ℕ) → (requirements : List (List ℕ)) → (rows : List ℕ) → (end : List ℕ) → (count : ℕ) → List ℕ
-requirements_to test requirements rows end zero = []
-requirements_to test requirements rows end (suc count) =
-    requirements_to test requirements rows end count ++ required_text test rows end (slice_get requirements count)
+abbrev pub requirements_to : (test : List ℕ) → (requirements : List (List ℕ)) → (rows : List ℕ) → (ending : List ℕ) → (count : ℕ) → List ℕ
+requirements_to test requirements rows ending zero = []
+requirements_to test requirements rows ending (suc count) =
+    requirements_to test requirements rows ending count ++ required_text test rows ending (slice_get requirements count)
 
 -- the records of a test: `-` stands for a requirement where it has none
-abbrev pub requirements_text : (test : List ℕ) → (requirements : List (List ℕ)) → (rows : List ℕ) → (end : List ℕ) → List ℕ
-requirements_text test requirements rows end =
-    cond (nat_eq (length requirements) 0) (rows_text test (codes "-") rows end) (requirements_to test requirements rows end (length requirements))
+abbrev pub requirements_text : (test : List ℕ) → (requirements : List (List ℕ)) → (rows : List ℕ) → (ending : List ℕ) → List ℕ
+requirements_text test requirements rows ending =
+    cond (nat_eq (length requirements) 0) (rows_text test (codes "-") rows ending) (requirements_to test requirements rows ending (length requirements))
 
 -- the records of the test of this number
 abbrev pub test_text : Program → Scores → (number : ℕ) → Test → List ℕ

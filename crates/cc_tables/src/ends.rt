@@ -10,10 +10,10 @@ use cc_program::Program;
 use std::alloc::Global;
 
 /// How a run ends, in words.
-pub fn end_text(alloc: Global, program: &Program, end: Option<&End>) -> Result<String, Memory>
-    ensures { IfOk result (λ text. string_bytes text ≡ end_text program.now (option_copied end)) }
+pub fn end_text(alloc: Global, program: &Program, ending: Option<&End>) -> Result<String, Memory>
+    ensures { IfOk result (λ text. string_bytes text ≡ end_text program.now (option_copied ending)) }
 {
-    let text = match end {
+    let text = match ending {
         None => String::from_str(alloc, "-")?,
         Some(End::Done) => String::from_str(alloc, "done")?,
         Some(End::TurnsOut) => String::from_str(alloc, "turns")?,

@@ -7,7 +7,7 @@
 #![tactic(auto)]
 
 mod ends;
-mod justify;
+mod justified;
 mod list;
 mod names;
 mod pairs;
@@ -16,7 +16,7 @@ mod rows;
 mod score;
 mod tests;
 
-pub use justify::{JustifyFault, justify};
+pub use justified::{JustifyFault, justify};
 pub use list::list_csv;
 pub use pairs::pairs_csv;
 pub use score::score_csv;

@@ -1,5 +1,5 @@
 // The listing as a table.
-ghost use Rattle.std.specs.Prelude.{◌≡◌, ◌++◌, ◌∷◌, [], IfOk, OnOk};
+ghost use Rattle.std.specs.Prelude.{◌≡◌, ◌++◌, ◌∷◌, ◌<◌, ◌-◌, ◌^◌, ◌+◌, IfOk, OnOk};
 ghost use Rattle.cc_tables.specs.Records.{IsFresh, record_text, written};
 ghost use Rattle.cc_tables.specs.Rows as rows;
 ghost use Rattle.cc_tables.specs.Tables as spec;
@@ -13,6 +13,7 @@ use cc_program::Program;
 use std::alloc::Global;
 
 /// The table of the listing: a header, and a row for each coupling, numbered from 1.
+#[tactic(auto, using(crate::proofs::More::rows_more))]
 pub fn list_csv(alloc: Global, program: &Program, listing: &Listing) -> Result<Vec<u8>, Memory>
     ensures { IfOk result (λ text. text.items ≡ spec.list_text program.now listing.now) }
 {

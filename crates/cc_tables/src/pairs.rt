@@ -46,6 +46,7 @@ pub struct Span {
 
 /// The table of the ordered pairs of components that have a listed row, in the components' order: for each kind how many
 /// rows there are, and how many of them a test exercises.
+#[tactic(auto, using(crate::proofs::More::pairs_more))]
 pub fn pairs_csv(
     alloc: Global,
     program: &Program,
@@ -116,6 +117,7 @@ fn span_of(program: &Program, row: &Coupling, is_covered: bool) -> Span
 }
 
 // What counts of each row.
+#[tactic(auto, using(crate::proofs::More::spans_more))]
 fn spans_of(
     alloc: Global,
     program: &Program,
@@ -140,6 +142,7 @@ fn is_between(span: &Span, from: u32, to: u32) -> bool
 }
 
 // The rows that lead from one component to the other.
+#[tactic(auto, using(crate::proofs::More::between_more))]
 fn between(alloc: Global, spans: &List<Span>, from: u32, to: u32) -> Result<List<Span>, Memory>
     ensures { IfOk result (λ some. some ≡ spec.between_to from to spans.now (length spans.now)) }
 {
@@ -161,6 +164,7 @@ fn counts(span: &Span, kind: Kind, covered: bool) -> bool
 }
 
 // How many rows are of this kind and, where `covered`, exercised by a test.
+#[tactic(auto, using(crate::proofs::More::count_more))]
 fn count(spans: &List<Span>, kind: Kind, covered: bool) -> u64
     ensures { result ≡ spec.count_to kind covered spans.now (length spans.now) }
 {
@@ -196,6 +200,7 @@ fn put_header(records: &mut Records) -> Result<(), Memory>
 }
 
 // The records of the pairs from a component.
+#[tactic(auto, using(crate::proofs::More::from_more))]
 fn put_pairs_from(
     alloc: Global,
     records: &mut Records,

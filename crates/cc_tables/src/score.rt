@@ -15,6 +15,7 @@ use std::alloc::Global;
 
 /// The table of the listing with a column for the first test of each row, `-` where there is none. Where `reasons` is
 /// given, a ninth column has the reason of each row, `-` where there is none.
+#[tactic(auto, using(crate::proofs::More::scored_more))]
 pub fn score_csv(
     alloc: Global,
     program: &Program,

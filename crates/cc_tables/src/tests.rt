@@ -13,6 +13,7 @@ use std::alloc::Global;
 
 /// The table of the tests: a header, and for each test, each of its requirements and each row that its run exercises a
 /// record with the end of the run; `-` stands where a test has no requirement, and where its run exercises no row.
+#[tactic(auto, using(crate::proofs::More::tests_more))]
 pub fn tests_csv(
     alloc: Global,
     program: &Program,
@@ -35,11 +36,11 @@ fn put_record(
     test: &str,
     requirement: &str,
     row: &str,
-    end: &str,
+    ending: &str,
 ) -> Result<(), Memory>
     requires { IsFresh records.old }
     ensures { OnOk result (IsFresh records.new × (written records.new ≡ written records.old
-        ++ record_text (test.now ∷ requirement.now ∷ row.now ∷ end.now ∷ []))) }
+        ++ record_text (test.now ∷ requirement.now ∷ row.now ∷ ending.now ∷ []))) }
 {
     put(
         records,
@@ -47,7 +48,7 @@ fn put_record(
             test.as_bytes(),
             requirement.as_bytes(),
             row.as_bytes(),
-            end.as_bytes(),
+            ending.as_bytes(),
         ],
     )
 }
@@ -63,6 +64,7 @@ fn rows_of(scores: &Scores, test: usize) -> &[u32]
 }
 
 // The records of a test.
+#[tactic(auto, using(crate::proofs::More::requirements_more))]
 fn put_test(
     alloc: Global,
     records: &mut Records,
@@ -75,37 +77,38 @@ fn put_test(
     ensures { OnOk result (IsFresh records.new × (written records.new ≡ written records.old
         ++ spec.test_text program.now scores.now number test.now)) }
 {
-    let end = end_text(alloc, program, scores.ends.as_slice().get(number))?;
+    let ending = end_text(alloc, program, scores.ends.as_slice().get(number))?;
     let rows = rows_of(scores, number);
     let name = test.name.as_str();
     if test.requirements.len() == 0 {
-        return put_rows(alloc, records, name, "-", rows, end.as_str());
+        return put_rows(alloc, records, name, "-", rows, ending.as_str());
     }
     for i in 0..test.requirements.len() {
         let requirement = test.requirements.get(i);
-        put_rows(alloc, records, name, requirement.as_str(), rows, end.as_str())?;
+        put_rows(alloc, records, name, requirement.as_str(), rows, ending.as_str())?;
     }
     Ok(())
 }
 
 // The records of a test and a requirement.
+#[tactic(auto, using(crate::proofs::More::numbered_more))]
 fn put_rows(
     alloc: Global,
     records: &mut Records,
     test: &str,
     requirement: &str,
     rows: &[u32],
-    end: &str,
+    ending: &str,
 ) -> Result<(), Memory>
     requires { IsFresh records.old }
     ensures { OnOk result (IsFresh records.new × (written records.new ≡ written records.old
-        ++ spec.rows_text test.now requirement.now rows.now end.now)) }
+        ++ spec.rows_text test.now requirement.now rows.now ending.now)) }
 {
     if rows.len() == 0 {
-        return put_record(records, test, requirement, "-", end);
+        return put_record(records, test, requirement, "-", ending);
     }
     for i in 0..rows.len() {
-        put_numbered(alloc, records, test, requirement, rows.get(i), end)?;
+        put_numbered(alloc, records, test, requirement, rows.get(i), ending)?;
     }
     Ok(())
 }
@@ -117,17 +120,17 @@ fn put_numbered(
     test: &str,
     requirement: &str,
     row: Option<&u32>,
-    end: &str,
+    ending: &str,
 ) -> Result<(), Memory>
     requires { IsFresh records.old }
     ensures { OnOk result (IsFresh records.new × (written records.new ≡ written records.old
-        ++ spec.numbered_text test.now requirement.now end.now (option_copied row))) }
+        ++ spec.numbered_text test.now requirement.now ending.now (option_copied row))) }
 {
     match row {
         None => Ok(()),
         Some(row) => {
             let number = (u64::from(*row) + 1).to_string(alloc)?;
-            put_record(records, test, requirement, number.as_str(), end)
+            put_record(records, test, requirement, number.as_str(), ending)
         }
     }
 }

@@ -4,4 +4,4 @@ use Rattle.cc_tables.specs.TestTable.{rows_to}
 use Rattle.cc_tables.proofs.tests.put_rows.Given as goal
 
 abbrev pub invariant-loop-i : goal.invariant-loop-i
-invariant-loop-i l = IsFresh l.records × (written l.records ≡ written l.initial.records ++ rows_to l.test l.requirement l.rows l.«end» l.i)
+invariant-loop-i l = IsFresh l.records × (written l.records ≡ written l.initial.records ++ rows_to l.test l.requirement l.rows l.ending l.i)
