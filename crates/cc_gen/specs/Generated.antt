@@ -8,15 +8,12 @@ use Rattle.cc_io.specs.Shelf.{Files}
 -- component, and reads that one's variable.
 abbrev pub calling : (i k j : ℕ) → List ℕ
 calling i k j =
-    codes "extern int v" ++ (decimal k ++ (codes "_" ++ (decimal j ++ (codes ";\nint v" ++ (decimal i ++ (codes "_" ++ (decimal j ++ (codes ";\nint s" ++ (decimal k ++ (codes "_" ++ (decimal j
-    ++ (codes "(int n);\nint s" ++ (decimal i ++ (codes "_" ++ (decimal j ++ (codes "(int n) { v" ++ (decimal i ++ (codes "_" ++ (decimal j
-    ++ (codes " = n; if (n > 0) n = s" ++ (decimal k ++ (codes "_" ++ (decimal j ++ (codes "(n - 1) + v" ++ (decimal k ++ (codes "_" ++ (decimal j ++ codes "; return n; }\n")))))))))))))))))))))))))))
+    codes "extern int v" ++ (decimal k ++ (codes "_" ++ (decimal j ++ (codes ";\nint v" ++ (decimal i ++ (codes "_" ++ (decimal j ++ (codes ";\nint s" ++ (decimal k ++ (codes "_" ++ (decimal j ++ (codes "(int n);\nint s" ++ (decimal i ++ (codes "_" ++ (decimal j ++ (codes "(int n) { v" ++ (decimal i ++ (codes "_" ++ (decimal j ++ (codes " = n; if (n > 0) n = s" ++ (decimal k ++ (codes "_" ++ (decimal j ++ (codes "(n - 1) + v" ++ (decimal k ++ (codes "_" ++ (decimal j ++ (codes "; return n; }\n"))))))))))))))))))))))))))))
 
 -- function j of the last component, i
 abbrev pub ending : (i j : ℕ) → List ℕ
 ending i j =
-    codes "int v" ++ (decimal i ++ (codes "_" ++ (decimal j ++ (codes ";\nint s" ++ (decimal i ++ (codes "_" ++ (decimal j
-    ++ (codes "(int n) { v" ++ (decimal i ++ (codes "_" ++ (decimal j ++ codes " = n; return n; }\n"))))))))))
+    codes "int v" ++ (decimal i ++ (codes "_" ++ (decimal j ++ (codes ";\nint s" ++ (decimal i ++ (codes "_" ++ (decimal j ++ (codes "(int n) { v" ++ (decimal i ++ (codes "_" ++ (decimal j ++ (codes " = n; return n; }\n"))))))))))))
 
 -- function j of component i of n
 abbrev pub function_text : (n i j : ℕ) → List ℕ

@@ -24,7 +24,9 @@ fn function_text(alloc: Global, n: u32, i: u32, j: u32) -> Result<String, AllocE
 fn calling(alloc: Global, i: u32, k: u32, j: u32) -> Result<String, AllocError>
     ensures { IfOk result (λ text. string_bytes text ≡ spec.calling i k j) }
 {
-    format!(in alloc; "extern int v{k}_{j};\nint v{i}_{j};\nint s{k}_{j}(int n);\nint s{i}_{j}(int n) {{ v{i}_{j} = n; if (n > 0) n = s{k}_{j}(n - 1) + v{k}_{j}; return n; }}\n")
+    format!(in alloc;
+        "extern int v{k}_{j};\nint v{i}_{j};\nint s{k}_{j}(int n);\nint s{i}_{j}(int n) {{ v{i}_{j} = n; if (n > 0) n = s{k}_{j}(n - 1) + v{k}_{j}; return n; }}\n"
+    )
 }
 
 // Function j of the last component.

@@ -67,7 +67,12 @@ pub fn read(program: &Program, reader: u32, cell: Cell, slot: Option<Slot>) -> O
     let slot = slot?;
     match slot.fresh() {
         Some(passed) => parameter(program, reader, passed),
-        None => shared(program, reader, cell.object, slot.due(component(program, reader))),
+        None => shared(
+            program,
+            reader,
+            cell.object,
+            slot.due(component(program, reader)),
+        ),
     }
 }
 

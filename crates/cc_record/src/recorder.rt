@@ -151,7 +151,8 @@ impl<'p> Recorder<'p> {
             self.activations.set_read(act, occ, wrote(slot));
         }
         if let Some(slot) = slot {
-            self.cells.replace(cell, slot.read_by(component(self.program, occ)));
+            self.cells
+                .replace(cell, slot.read_by(component(self.program, occ)));
         }
         Ok(())
     }
@@ -173,7 +174,11 @@ impl<'p> Recorder<'p> {
     {
         if let Some(ret) = ret {
             let definition = self.returned_now(ret, act);
-            if let Some(coupling) = gives::leave(self.program, definition, self.activations.entry(act)) {
+            if let Some(coupling) = gives::leave(
+                self.program,
+                definition,
+                self.activations.entry(act),
+            ) {
                 self.seen.add(&coupling)?;
             }
         }

@@ -233,17 +233,17 @@ module _ (R : Roles) where
 
     param_given : (d s k : ℕ) (g : FuncId) (u : ℕ) → IsParameter R E d s k g u → IsGiven R E (Parameter d s k g u)
     param_given d s k g u p = (
-          p.j,
-          Use u p.cell p.act',
-          p.«use»,
-          ap (formal_by R (take p.j E) u) (last_is (touches p.cell) E p.j p.i _ p.last)
-              ∙ ap (λ past. entered_by R past s k u (last_of (enters p.act) past)) (take_take p.i p.j E p.last.before)
-              ∙ ap (entered_by R (take p.i E) s k u) (last_is (enters p.act) E p.i p.h _ p.enter)
-              ∙ ap (λ past. entered R past s k u (Enter (Some s) g p.act)) (take_take p.h p.i E p.enter.before)
-              ∙ ap (λ b. cond b (apart R (R.component s) (R.home g) (param s k g u (argument_by R (take p.h E) (R.argument s k)))) None) (eq-eqb s s refl)
-              ∙ apart_is (R.component s) (R.home g) (param s k g u (argument_by R (take p.h E) (R.argument s k))) p.apart
-              ∙ ap (param s k g u) (argument_given p.h d (R.argument s k) p.defines),
-        )
+      p.j,
+      Use u p.cell p.act',
+      p.«use»,
+      ap (formal_by R (take p.j E) u) (last_is (touches p.cell) E p.j p.i _ p.last)
+          ∙ ap (λ past. entered_by R past s k u (last_of (enters p.act) past)) (take_take p.i p.j E p.last.before)
+          ∙ ap (entered_by R (take p.i E) s k u) (last_is (enters p.act) E p.i p.h _ p.enter)
+          ∙ ap (λ past. entered R past s k u (Enter (Some s) g p.act)) (take_take p.h p.i E p.enter.before)
+          ∙ ap (λ b. cond b (apart R (R.component s) (R.home g) (param s k g u (argument_by R (take p.h E) (R.argument s k)))) None) (eq-eqb s s refl)
+          ∙ apart_is (R.component s) (R.home g) (param s k g u (argument_by R (take p.h E) (R.argument s k))) p.apart
+          ∙ ap (param s k g u) (argument_given p.h d (R.argument s k) p.defines),
+    )
 
     module _ (j u : ℕ) (c : Cell) (act' : ℕ) (q : Coupling) (at : slice_get E j ≡ Some (Use u c act')) where
       module _ (i s k act : ℕ) (pass : IsLast E (touches c) j i (Pass s k c act)) where

@@ -37,4 +37,3 @@ IsOrderlyAfter past (e ∷ es) = Lives past e × IsOrderlyAfter (past ++ e ∷ [
 -- Nothing is read of what has ended, and no activation is entered twice.
 abbrev pub IsOrderly : List Event → Type 0
 IsOrderly E = IsOrderlyAfter [] E
-

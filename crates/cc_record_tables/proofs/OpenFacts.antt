@@ -2,14 +2,17 @@
 use Rattle.std.proofs.Common.{◌≡◌, ℕ, zero, suc, ◌+◌, ◌-◌, ◌<◌, List, [], ◌∷◌, ◌++◌, length, ⊎_elim, Option, Some, None, Bool, true, false, refl, sym, ap, ◌∙◌, subst, arith, cond, reverse, take, eq-eqb}
 use Rattle.std.specs.Prelude.{nat_eq, slice_get, remove}
 use Rattle.std.proofs.lemmas.Bool.{cases_eq, ne_eqb}
+use Rattle.std.proofs.lemmas.List.{reverse-append}
 use Rattle.cc_record_laws.specs.Kept.{without}
 use Rattle.cc_record_laws.specs.Watching.{Distinct, is_among}
 use Rattle.cc_record_laws.proofs.Exact.{eqb_is}
 use Rattle.cc_record_tables.specs.Opened.{place_from, is_it, is_last}
 
 pub reverse_push : (xs : List ℕ) (a : ℕ) → reverse (xs ++ a ∷ []) ≡ a ∷ reverse xs
-reverse_push [] a = refl
-reverse_push (x ∷ xs) a = ap (λ r. r ++ x ∷ []) (reverse_push xs a)
+reverse_push xs a = reverse-append xs (a ∷ [])
+
+reverse_cons : (x : ℕ) (xs : List ℕ) → reverse (x ∷ xs) ≡ reverse xs ++ x ∷ []
+reverse_cons x xs = reverse-append (x ∷ []) xs
 
 pub without_append : (act : ℕ) (xs ys : List ℕ) → without act (xs ++ ys) ≡ without act xs ++ without act ys
 without_append act [] ys = refl
@@ -21,7 +24,7 @@ without_append act (x ∷ xs) ys = ap (λ r. cond (nat_eq act x) r (x ∷ r)) (w
 
 pub without_reverse : (act : ℕ) (xs : List ℕ) → without act (reverse xs) ≡ reverse (without act xs)
 without_reverse act [] = refl
-without_reverse act (x ∷ xs) = without_append act (reverse xs) (x ∷ []) ∙ (ap (λ r. r ++ without act (x ∷ [])) (without_reverse act xs) ∙ by (nat_eq act x))
+without_reverse act (x ∷ xs) = ap (without act) (reverse_cons x xs) ∙ (without_append act (reverse xs) (x ∷ []) ∙ (ap (λ r. r ++ without act (x ∷ [])) (without_reverse act xs) ∙ by (nat_eq act x)))
   where
     nil : (ys : List ℕ) → ys ++ [] ≡ ys
     nil [] = refl
@@ -29,7 +32,7 @@ without_reverse act (x ∷ xs) = without_append act (reverse xs) (x ∷ []) ∙ 
 
     by : (b : Bool) → reverse (without act xs) ++ cond b [] (x ∷ []) ≡ reverse (cond b (without act xs) (x ∷ without act xs))
     by true = nil (reverse (without act xs))
-    by false = refl
+    by false = sym (reverse_cons x (without act xs))
 
 pub without_absent : (act : ℕ) (xs : List ℕ) → is_among act xs ≡ false → without act xs ≡ xs
 without_absent act [] h = refl

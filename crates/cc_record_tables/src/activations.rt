@@ -95,7 +95,7 @@ impl Activations {
     pub fn entry(&self, act: u64) -> Option<Entry>
         ensures { result ≡ (spec.answers_of self.now).entry act }
     {
-        match self.live.get(act) {
+        match self.live.get(&act) {
             Some(activation) => activation.entry,
             None => None,
         }
@@ -105,7 +105,7 @@ impl Activations {
     pub fn passing(&self, act: u64, k: u32) -> Option<u32>
         ensures { result ≡ (spec.answers_of self.now).passing act k }
     {
-        match self.live.get(act) {
+        match self.live.get(&act) {
             Some(activation) => passed(&activation.passing, k),
             None => None,
         }
@@ -115,7 +115,7 @@ impl Activations {
     pub fn read(&self, act: u64, occ: u32) -> Option<u32>
         ensures { result ≡ (spec.answers_of self.now).read act occ }
     {
-        match self.live.get(act) {
+        match self.live.get(&act) {
             Some(activation) => read_in(&activation.reads, occ),
             None => None,
         }
@@ -126,7 +126,7 @@ impl Activations {
         ensures same { SameAnswers (spec.answers_of self.old) (spec.answers_of self.new) }
         ensures room { OnOk result (spec.has_place self.new act ≡ true) }
     {
-        if self.live.get(act).is_some() {
+        if self.live.get(&act).is_some() {
             return Ok(());
         }
         let activation = Activation {
@@ -144,7 +144,7 @@ impl Activations {
         ensures room { OnOk result (spec.has_read_place self.new act occ ≡ true) }
     {
         self.make_place(act)?;
-        match self.live.get_mut(act) {
+        match self.live.get_mut(&act) {
             Some(activation) => make_read_place(&mut activation.reads, occ),
             None => Err(Memory),
         }
@@ -155,7 +155,7 @@ impl Activations {
         ensures { SameAnswers (spec.entered act entry passing.items (spec.has_place self.old act) (spec.answers_of self.old))
             (spec.answers_of self.new) }
     {
-        if let Some(activation) = self.live.get_mut(act) {
+        if let Some(activation) = self.live.get_mut(&act) {
             activation.entry = entry;
             activation.passing = passing;
         }
@@ -166,7 +166,7 @@ impl Activations {
         ensures { SameAnswers (spec.with_read act occ definition (spec.has_read_place self.old act occ) (spec.answers_of self.old))
             (spec.answers_of self.new) }
     {
-        if let Some(activation) = self.live.get_mut(act) {
+        if let Some(activation) = self.live.get_mut(&act) {
             set_read(&mut activation.reads, occ, definition);
         }
     }
@@ -175,7 +175,7 @@ impl Activations {
     pub fn end(&mut self, act: u64)
         ensures { SameAnswers (spec.without act (spec.answers_of self.old)) (spec.answers_of self.new) }
     {
-        self.live.swap_remove(act);
+        self.live.swap_remove(&act);
     }
 }
 

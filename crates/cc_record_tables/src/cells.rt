@@ -150,7 +150,7 @@ impl Cells {
     pub fn slot(&self, cell: Cell) -> Option<Slot>
         ensures { result ≡ spec.slot_of self.now cell }
     {
-        match self.rows.get(cell.instance) {
+        match self.rows.get(&cell.instance) {
             Some(rows) => slot_in(rows, cell.object, cell.index),
             None => None,
         }
@@ -162,7 +162,7 @@ impl Cells {
             ≡ cond (same_cell cell c) (Some slot) (spec.slot_of self.old c)) }
         ensures err { OnErr result ((c : Cell) → spec.slot_of self.new c ≡ spec.slot_of self.old c) }
     {
-        match self.rows.get_mut(cell.instance) {
+        match self.rows.get_mut(&cell.instance) {
             Some(rows) => put_in_rows(self.alloc, rows, cell.object, cell.index, slot),
             None => {
                 let rows = new_rows(self.alloc, cell.object, cell.index, slot)?;
@@ -177,7 +177,7 @@ impl Cells {
         ensures { (c : Cell) → spec.slot_of self.new c
             ≡ cond (same_cell cell c && spec.has_place self.old cell) (Some slot) (spec.slot_of self.old c) }
     {
-        if let Some(rows) = self.rows.get_mut(cell.instance) {
+        if let Some(rows) = self.rows.get_mut(&cell.instance) {
             replace_in_rows(rows, cell.object, cell.index, slot);
         }
     }
@@ -187,6 +187,6 @@ impl Cells {
         ensures { (c : Cell) → spec.slot_of self.new c
             ≡ cond (nat_eq instance c.instance) None (spec.slot_of self.old c) }
     {
-        self.rows.swap_remove(instance);
+        self.rows.swap_remove(&instance);
     }
 }

@@ -74,7 +74,7 @@ impl CouplingSet {
     pub fn has(&self, coupling: &Coupling) -> bool
         ensures { IsTrue result ↔ Contains self.now coupling.now }
     {
-        self.keys.contains(key_of(coupling))
+        self.keys.contains(&key_of(coupling))
     }
 
     /// Adds a coupling. After an error the set is as it was.

@@ -7,11 +7,11 @@
 mod activations;
 mod cells;
 mod couplings;
-mod open;
+mod opened;
 mod slot;
 
 pub use activations::{Activation, Activations, Read};
 pub use cells::{Cells, Row};
 pub use couplings::CouplingSet;
-pub use open::{close, open};
+pub use opened::{begin, finish};
 pub use slot::{Since, Slot};

@@ -18,7 +18,7 @@ pub struct Conflict {
 }
 
 /// The row with a reason and a mark whose justification is the least, and of such rows the least. Takes no memory.
-#[tactic(auto, using(crate::proofs::More::least_more))]
+#[tactic(auto, using(crate::proofs::More::least_more, crate::proofs::Least::found, crate::proofs::Least::missing))]
 pub fn conflict(scores: &Scores, reasons: &RowReasons) -> Option<Conflict>
     requires { length reasons.now < 2 ^ 32 }
     ensures some { IfSome result (λ c. IsLeast scores.now.marks reasons.now (length reasons.now) c) }

@@ -101,7 +101,7 @@ fn defines(listing: &Listing, row: u32, wanted: u32) -> bool
 }
 
 // Whether one of the first `count` rows has the definition.
-#[tactic(auto, using(crate::proofs::More::occurs_more))]
+#[tactic(auto, using(crate::proofs::More::occurs_before))]
 fn occurs(listing: &Listing, count: u32, wanted: u32) -> bool
     requires { count ≤ length listing.now }
     ensures { result ≡ spec.occurs_to listing.now wanted count }
@@ -117,7 +117,7 @@ fn occurs(listing: &Listing, count: u32, wanted: u32) -> bool
 }
 
 // Whether one of the first `count` rows has the definition and a mark.
-#[tactic(auto, using(crate::proofs::More::marked_more))]
+#[tactic(auto, using(crate::proofs::More::marked_before))]
 fn is_marked(listing: &Listing, scores: &Scores, count: u32, wanted: u32) -> bool
     requires { count ≤ length listing.now }
     ensures { result ≡ spec.marked_to listing.now scores.now.marks wanted count }
@@ -133,7 +133,7 @@ fn is_marked(listing: &Listing, scores: &Scores, count: u32, wanted: u32) -> boo
 }
 
 // Whether each of the first `count` rows that has the definition has a reason.
-#[tactic(auto, using(crate::proofs::More::reasoned_more))]
+#[tactic(auto, using(crate::proofs::More::reasoned_before))]
 fn is_reasoned(listing: &Listing, reasons: Option<&RowReasons>, count: u32, wanted: u32) -> bool
     requires { count ≤ length listing.now }
     ensures { result ≡ spec.reasoned_to listing.now (option_copied reasons) wanted count }

@@ -186,11 +186,7 @@ fn text_of_row(alloc: Global, program: &Program, row: &Coupling) -> Result<Bytes
 
 // The records of the rows without their numbers.
 #[tactic(auto, using(crate::proofs::More::texts_more))]
-fn texts_of(
-    alloc: Global,
-    program: &Program,
-    listing: &Listing,
-) -> Result<List<Bytes>, NoMemory>
+fn texts_of(alloc: Global, program: &Program, listing: &Listing) -> Result<List<Bytes>, NoMemory>
     ensures { IfOk result (λ texts. texts ≡ spec.texts_to program.now listing.now (length listing.now)) }
 {
     let mut texts = List::new(alloc);

@@ -94,7 +94,9 @@ fn span_of(program: &Program, row: &Coupling, is_covered: bool) -> Span
             is_covered,
         },
         Coupling::Shared {
-            definition, reader, ..
+            definition,
+            reader,
+            ..
         } => Span {
             kind: Kind::Shared,
             from: component(program, definition),

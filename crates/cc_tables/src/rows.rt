@@ -99,7 +99,9 @@ fn shared_fields<'p>(
         ≡ spec.shared_fields program.now definition reader object) }
 {
     let name = String::from_str(alloc, object_name(program, object))?;
-    between(alloc, program, "shared", definition, reader, definition, reader, name)
+    between(
+        alloc, program, "shared", definition, reader, definition, reader, name,
+    )
 }
 
 fn parameter_fields<'p>(
@@ -116,7 +118,16 @@ fn parameter_fields<'p>(
 {
     let name = passed_text(alloc, program, site, k, callee)?;
     let head = declarator(program, callee);
-    between(alloc, program, "parameter", site, head, definition, reader, name)
+    between(
+        alloc,
+        program,
+        "parameter",
+        site,
+        head,
+        definition,
+        reader,
+        name,
+    )
 }
 
 // `g/k@place`: argument k of the call of g at this place.

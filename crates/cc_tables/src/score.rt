@@ -32,7 +32,15 @@ pub fn score_csv(
     for i in 0..listing.len() {
         let mark = mark_text(tests, scores, i);
         let reason = reason_at(reasons, i);
-        put_row(alloc, &mut records, program, i, listing.row(i), mark, reason)?;
+        put_row(
+            alloc,
+            &mut records,
+            program,
+            i,
+            listing.row(i),
+            mark,
+            reason,
+        )?;
     }
     text_of(records)
 }

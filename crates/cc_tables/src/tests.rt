@@ -26,7 +26,14 @@ pub fn tests_csv(
     let mut records = no_records(alloc);
     put_record(&mut records, "test", "requirement", "row", "end")?;
     for i in 0..tests.len() {
-        put_test(alloc, &mut records, program, scores, i as usize, tests.get(i))?;
+        put_test(
+            alloc,
+            &mut records,
+            program,
+            scores,
+            i as usize,
+            tests.get(i),
+        )?;
     }
     text_of(records)
 }
@@ -85,7 +92,14 @@ fn put_test(
     }
     for i in 0..test.requirements.len() {
         let requirement = test.requirements.get(i);
-        put_rows(alloc, records, name, requirement.as_str(), rows, ending.as_str())?;
+        put_rows(
+            alloc,
+            records,
+            name,
+            requirement.as_str(),
+            rows,
+            ending.as_str(),
+        )?;
     }
     Ok(())
 }

@@ -7,7 +7,7 @@ ghost use Rattle.cc_record_tables.specs.Opened as spec;
 use cc_base::Memory;
 
 /// Enters an activation: it stands last.
-pub fn open(acts: &mut Vec<u64>, act: u64) -> Result<(), Memory>
+pub fn begin(acts: &mut Vec<u64>, act: u64) -> Result<(), Memory>
     ensures ok { OnOk result (reverse acts.new.items ≡ act ∷ reverse acts.old.items) }
     ensures err { OnErr result (acts.new.items ≡ acts.old.items) }
 {
@@ -19,8 +19,8 @@ pub fn open(acts: &mut Vec<u64>, act: u64) -> Result<(), Memory>
 fn place(acts: &[u64], act: u64) -> Option<usize>
     ensures { result ≡ spec.place_from 0 acts.now act }
 {
-    for (i, open) in acts.iter().enumerate() {
-        if *open == act {
+    for (i, one) in acts.iter().enumerate() {
+        if *one == act {
             return Some(i);
         }
     }
@@ -47,7 +47,7 @@ fn is_last(acts: &[u64], act: u64) -> bool
 }
 
 /// Leaves an activation that was entered once.
-pub fn close(acts: &mut Vec<u64>, act: u64)
+pub fn finish(acts: &mut Vec<u64>, act: u64)
     ensures { Distinct (reverse acts.old.items) → reverse acts.new.items ≡ without act (reverse acts.old.items) }
 {
     if is_last(acts, act) {
