@@ -1,12 +1,12 @@
 // The rows that justifications speak of.
-ghost use Rattle.std.specs.Prelude.{◌≡◌, ℕ, None, Some, IfOk, IfErr, bytes_eq, length, option_map};
+ghost use Rattle.std.specs.Prelude.{◌≡◌, ◌++◌, ◌∷◌, [], ℕ, None, Some, IfOk, IfErr, OnOk, bytes_eq, length, option_map};
 ghost use Rattle.cc_tables.specs.declared.justified.JustifyFault.TheVariants as fault;
 ghost use Rattle.cc_program.specs.Programs.{number_of};
-ghost use Rattle.cc_tables.specs.Records.{record_text};
+ghost use Rattle.cc_tables.specs.Records.{IsFresh, record_text, written};
 ghost use Rattle.cc_tables.specs.Rows as rows;
 ghost use Rattle.cc_tables.specs.Justifying as spec;
 
-use crate::records::{no_records, put, text_of};
+use crate::records::{Records, no_records, put, text_of};
 use crate::rows::row_fields;
 use cc_base::{Bytes, List, Memory as NoMemory, Text};
 use cc_meaning::{Coupling, Justified, JustifiedList, Listing, RowReason, RowReasons};
@@ -170,18 +170,42 @@ fn text_of_row(alloc: Global, program: &Program, row: &Coupling) -> Result<Bytes
 {
     let fields = row_fields(alloc, program, row)?;
     let mut records = no_records(alloc);
-    put(
+    put_fields(
         &mut records,
-        &[
-            fields.kind.as_bytes(),
-            fields.from.as_bytes(),
-            fields.to.as_bytes(),
-            fields.definition.as_bytes(),
-            fields.used.as_bytes(),
-            fields.name.as_bytes(),
-        ],
+        fields.kind,
+        fields.from,
+        fields.to,
+        fields.definition.as_str(),
+        fields.used.as_str(),
+        fields.name.as_str(),
     )?;
     Ok(Bytes::new(text_of(records)?))
+}
+
+fn put_fields(
+    records: &mut Records,
+    kind: &str,
+    from: &str,
+    to: &str,
+    definition: &str,
+    used: &str,
+    name: &str,
+) -> Result<(), NoMemory>
+    requires { IsFresh records.old }
+    ensures { OnOk result (IsFresh records.new × (written records.new ≡ written records.old
+        ++ record_text (kind.now ∷ from.now ∷ to.now ∷ definition.now ∷ used.now ∷ name.now ∷ []))) }
+{
+    put(
+        records,
+        &[
+            kind.as_bytes(),
+            from.as_bytes(),
+            to.as_bytes(),
+            definition.as_bytes(),
+            used.as_bytes(),
+            name.as_bytes(),
+        ],
+    )
 }
 
 // The records of the rows without their numbers.

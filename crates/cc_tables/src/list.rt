@@ -1,5 +1,5 @@
 // The listing as a table.
-ghost use Rattle.std.specs.Prelude.{◌≡◌, ◌++◌, ◌∷◌, ◌<◌, ◌-◌, ◌^◌, ◌+◌, IfOk, OnOk};
+ghost use Rattle.std.specs.Prelude.{◌≡◌, ◌++◌, ◌∷◌, ◌<◌, ◌-◌, ◌^◌, ◌+◌, [], IfOk, OnOk};
 ghost use Rattle.cc_tables.specs.Records.{IsFresh, record_text, written};
 ghost use Rattle.cc_tables.specs.Rows as rows;
 ghost use Rattle.cc_tables.specs.Tables as spec;
@@ -58,16 +58,42 @@ fn put_row(
 {
     let fields = row_fields(alloc, program, row)?;
     let number = (i + 1).to_string(alloc)?;
+    put_fields(
+        records,
+        number.as_str(),
+        fields.kind,
+        fields.from,
+        fields.to,
+        fields.definition.as_str(),
+        fields.used.as_str(),
+        fields.name.as_str(),
+    )
+}
+
+fn put_fields(
+    records: &mut Records,
+    number: &str,
+    kind: &str,
+    from: &str,
+    to: &str,
+    definition: &str,
+    used: &str,
+    name: &str,
+) -> Result<(), Memory>
+    requires { IsFresh records.old }
+    ensures { OnOk result (IsFresh records.new × (written records.new ≡ written records.old
+        ++ record_text (number.now ∷ kind.now ∷ from.now ∷ to.now ∷ definition.now ∷ used.now ∷ name.now ∷ []))) }
+{
     put(
         records,
         &[
             number.as_bytes(),
-            fields.kind.as_bytes(),
-            fields.from.as_bytes(),
-            fields.to.as_bytes(),
-            fields.definition.as_bytes(),
-            fields.used.as_bytes(),
-            fields.name.as_bytes(),
+            kind.as_bytes(),
+            from.as_bytes(),
+            to.as_bytes(),
+            definition.as_bytes(),
+            used.as_bytes(),
+            name.as_bytes(),
         ],
     )
 }

@@ -99,35 +99,97 @@ fn put_row(
 {
     let fields = row_fields(alloc, program, row)?;
     let number = (i + 1).to_string(alloc)?;
+    let number = number.as_str();
+    let definition = fields.definition.as_str();
+    let used = fields.used.as_str();
+    let name = fields.name.as_str();
     match reason {
-        None => put(
+        None => put_marked(
             records,
-            &[
-                number.as_bytes(),
-                fields.kind.as_bytes(),
-                fields.from.as_bytes(),
-                fields.to.as_bytes(),
-                fields.definition.as_bytes(),
-                fields.used.as_bytes(),
-                fields.name.as_bytes(),
-                mark.as_bytes(),
-            ],
+            number,
+            fields.kind,
+            fields.from,
+            fields.to,
+            definition,
+            used,
+            name,
+            mark,
         ),
-        Some(reason) => put(
+        Some(reason) => put_reasoned(
             records,
-            &[
-                number.as_bytes(),
-                fields.kind.as_bytes(),
-                fields.from.as_bytes(),
-                fields.to.as_bytes(),
-                fields.definition.as_bytes(),
-                fields.used.as_bytes(),
-                fields.name.as_bytes(),
-                mark.as_bytes(),
-                reason.as_bytes(),
-            ],
+            number,
+            fields.kind,
+            fields.from,
+            fields.to,
+            definition,
+            used,
+            name,
+            mark,
+            reason,
         ),
     }
+}
+
+fn put_marked(
+    records: &mut Records,
+    number: &str,
+    kind: &str,
+    from: &str,
+    to: &str,
+    definition: &str,
+    used: &str,
+    name: &str,
+    mark: &str,
+) -> Result<(), Memory>
+    requires { IsFresh records.old }
+    ensures { OnOk result (IsFresh records.new × (written records.new ≡ written records.old
+        ++ record_text (number.now ∷ kind.now ∷ from.now ∷ to.now ∷ definition.now ∷ used.now ∷ name.now ∷ mark.now ∷ []))) }
+{
+    put(
+        records,
+        &[
+            number.as_bytes(),
+            kind.as_bytes(),
+            from.as_bytes(),
+            to.as_bytes(),
+            definition.as_bytes(),
+            used.as_bytes(),
+            name.as_bytes(),
+            mark.as_bytes(),
+        ],
+    )
+}
+
+fn put_reasoned(
+    records: &mut Records,
+    number: &str,
+    kind: &str,
+    from: &str,
+    to: &str,
+    definition: &str,
+    used: &str,
+    name: &str,
+    mark: &str,
+    reason: &str,
+) -> Result<(), Memory>
+    requires { IsFresh records.old }
+    ensures { OnOk result (IsFresh records.new × (written records.new ≡ written records.old ++ record_text
+        (number.now ∷ kind.now ∷ from.now ∷ to.now ∷ definition.now ∷ used.now ∷ name.now ∷ mark.now ∷ reason.now ∷ []))) }
+{
+    put(
+        records,
+        &[
+            number.as_bytes(),
+            kind.as_bytes(),
+            from.as_bytes(),
+            to.as_bytes(),
+            definition.as_bytes(),
+            used.as_bytes(),
+            name.as_bytes(),
+            mark.as_bytes(),
+            reason.as_bytes(),
+        ],
+    )
 }
 
 // The name of the test that marks a row, or `-`.
