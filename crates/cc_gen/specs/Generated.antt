@@ -4,16 +4,44 @@ use Rattle.std.specs.Fmt.{decimal}
 use Rattle.std.specs.FinMap as map
 use Rattle.cc_io.specs.Shelf.{Files}
 
+-- the variable, and the function, of number j in component i
+abbrev pub variable : (i j : ℕ) → List ℕ
+variable i j = codes "v" ++ (decimal i ++ (codes "_" ++ decimal j))
+
+abbrev pub function : (i j : ℕ) → List ℕ
+function i j = codes "s" ++ (decimal i ++ (codes "_" ++ decimal j))
+
+-- the lines that declare what is called and read, and what is written
+abbrev pub external : (variable : List ℕ) → List ℕ
+external v = codes "extern int " ++ (v ++ codes ";\n")
+
+abbrev pub declared : (variable : List ℕ) → List ℕ
+declared v = codes "int " ++ (v ++ codes ";\n")
+
+abbrev pub prototype : (function : List ℕ) → List ℕ
+prototype s = codes "int " ++ (s ++ codes "(int n);\n")
+
+-- the beginning of a function's line: it writes its variable
+abbrev pub begun : (function variable : List ℕ) → List ℕ
+begun s v = codes "int " ++ (s ++ (codes "(int n) { " ++ (v ++ codes " = n;")))
+
+-- the call of another function, and the read of its variable
+abbrev pub calls_on : (function variable : List ℕ) → List ℕ
+calls_on s v = codes " if (n > 0) n = " ++ (s ++ (codes "(n - 1) + " ++ (v ++ codes ";")))
+
+abbrev pub ended : List ℕ
+ended = codes " return n; }\n"
+
 -- Function j of component i, where the next component is k: it writes its variable, calls function j of the next
 -- component, and reads that one's variable.
 abbrev pub calling : (i k j : ℕ) → List ℕ
 calling i k j =
-    codes "extern int v" ++ (decimal k ++ (codes "_" ++ (decimal j ++ (codes ";\nint v" ++ (decimal i ++ (codes "_" ++ (decimal j ++ (codes ";\nint s" ++ (decimal k ++ (codes "_" ++ (decimal j ++ (codes "(int n);\nint s" ++ (decimal i ++ (codes "_" ++ (decimal j ++ (codes "(int n) { v" ++ (decimal i ++ (codes "_" ++ (decimal j ++ (codes " = n; if (n > 0) n = s" ++ (decimal k ++ (codes "_" ++ (decimal j ++ (codes "(n - 1) + v" ++ (decimal k ++ (codes "_" ++ (decimal j ++ (codes "; return n; }\n"))))))))))))))))))))))))))))
+    ((((external (variable k j) ++ declared (variable i j)) ++ prototype (function k j)) ++ begun (function i j) (variable i j))
+    ++ calls_on (function k j) (variable k j)) ++ ended
 
 -- function j of the last component, i
 abbrev pub ending : (i j : ℕ) → List ℕ
-ending i j =
-    codes "int v" ++ (decimal i ++ (codes "_" ++ (decimal j ++ (codes ";\nint s" ++ (decimal i ++ (codes "_" ++ (decimal j ++ (codes "(int n) { v" ++ (decimal i ++ (codes "_" ++ (decimal j ++ (codes " = n; return n; }\n"))))))))))))
+ending i j = (declared (variable i j) ++ begun (function i j) (variable i j)) ++ ended
 
 -- function j of component i of n
 abbrev pub function_text : (n i j : ℕ) → List ℕ
@@ -66,7 +94,7 @@ test_text name argument = codes "\n[[test]]\nname = \"T" ++ (decimal name ++ (co
 -- the project file of n components
 abbrev pub project_text : (n : ℕ) → List ℕ
 project_text n =
-    codes "format = 1\nentries = [" ++ (entries_text 20 ++ (codes "]\n" ++ (components_text n ++ (test_text 1 0 ++ test_text 2 n))))
+    ((((codes "format = 1\nentries = [" ++ entries_text 20) ++ codes "]\n") ++ components_text n) ++ test_text 1 0) ++ test_text 2 n
 
 -- the project file, and the files of the first `count` components of n
 abbrev pub files_to : (n count : ℕ) → Files

@@ -20,20 +20,82 @@ fn function_text(alloc: Global, n: u32, i: u32, j: u32) -> Result<String, AllocE
     }
 }
 
+fn variable(alloc: Global, i: u32, j: u32) -> Result<String, AllocError>
+    ensures { IfOk result (λ text. string_bytes text ≡ spec.variable i j) }
+{
+    format!(in alloc; "v{i}_{j}")
+}
+
+fn function(alloc: Global, i: u32, j: u32) -> Result<String, AllocError>
+    ensures { IfOk result (λ text. string_bytes text ≡ spec.function i j) }
+{
+    format!(in alloc; "s{i}_{j}")
+}
+
+fn external(alloc: Global, variable: &str) -> Result<String, AllocError>
+    ensures { IfOk result (λ text. string_bytes text ≡ spec.external variable.now) }
+{
+    format!(in alloc; "extern int {variable};\n")
+}
+
+fn declared(alloc: Global, variable: &str) -> Result<String, AllocError>
+    ensures { IfOk result (λ text. string_bytes text ≡ spec.declared variable.now) }
+{
+    format!(in alloc; "int {variable};\n")
+}
+
+fn prototype(alloc: Global, function: &str) -> Result<String, AllocError>
+    ensures { IfOk result (λ text. string_bytes text ≡ spec.prototype function.now) }
+{
+    format!(in alloc; "int {function}(int n);\n")
+}
+
+// The beginning of a function's line: it writes its variable.
+fn begun(alloc: Global, function: &str, variable: &str) -> Result<String, AllocError>
+    ensures { IfOk result (λ text. string_bytes text ≡ spec.begun function.now variable.now) }
+{
+    format!(in alloc; "int {function}(int n) {{ {variable} = n;")
+}
+
+// The call of another function, and the read of its variable.
+fn calls_on(alloc: Global, function: &str, variable: &str) -> Result<String, AllocError>
+    ensures { IfOk result (λ text. string_bytes text ≡ spec.calls_on function.now variable.now) }
+{
+    format!(in alloc; " if (n > 0) n = {function}(n - 1) + {variable};")
+}
+
 // Function j of component i, where the next component is k.
 fn calling(alloc: Global, i: u32, k: u32, j: u32) -> Result<String, AllocError>
     ensures { IfOk result (λ text. string_bytes text ≡ spec.calling i k j) }
 {
-    format!(in alloc;
-        "extern int v{k}_{j};\nint v{i}_{j};\nint s{k}_{j}(int n);\nint s{i}_{j}(int n) {{ v{i}_{j} = n; if (n > 0) n = s{k}_{j}(n - 1) + v{k}_{j}; return n; }}\n"
-    )
+    let own = variable(alloc, i, j)?;
+    let other = variable(alloc, k, j)?;
+    let caller = function(alloc, i, j)?;
+    let callee = function(alloc, k, j)?;
+    let mut text = external(alloc, other.as_str())?;
+    let line = declared(alloc, own.as_str())?;
+    text.push_str(line.as_str())?;
+    let head = prototype(alloc, callee.as_str())?;
+    text.push_str(head.as_str())?;
+    let start = begun(alloc, caller.as_str(), own.as_str())?;
+    text.push_str(start.as_str())?;
+    let middle = calls_on(alloc, callee.as_str(), other.as_str())?;
+    text.push_str(middle.as_str())?;
+    text.push_str(" return n; }\n")?;
+    Ok(text)
 }
 
 // Function j of the last component.
 fn ending(alloc: Global, i: u32, j: u32) -> Result<String, AllocError>
     ensures { IfOk result (λ text. string_bytes text ≡ spec.ending i j) }
 {
-    format!(in alloc; "int v{i}_{j};\nint s{i}_{j}(int n) {{ v{i}_{j} = n; return n; }}\n")
+    let own = variable(alloc, i, j)?;
+    let caller = function(alloc, i, j)?;
+    let mut text = declared(alloc, own.as_str())?;
+    let start = begun(alloc, caller.as_str(), own.as_str())?;
+    text.push_str(start.as_str())?;
+    text.push_str(" return n; }\n")?;
+    Ok(text)
 }
 
 /// The file of component i of n.
@@ -140,9 +202,15 @@ pub fn project_text(alloc: Global, n: u32) -> Result<String, AllocError>
     requires { n ≤ 60 }
     ensures { IfOk result (λ text. string_bytes text ≡ spec.project_text n) }
 {
+    let mut text = String::from_str(alloc, "format = 1\nentries = [")?;
     let entries = entries_text(alloc)?;
+    text.push_str(entries.as_str())?;
+    text.push_str("]\n")?;
     let components = components_text(alloc, n)?;
-    let first = test_text(alloc, 1, 0)?;
-    let second = test_text(alloc, 2, n)?;
-    format!(in alloc; "format = 1\nentries = [{entries}]\n{components}{first}{second}")
+    text.push_str(components.as_str())?;
+    let test = test_text(alloc, 1, 0)?;
+    text.push_str(test.as_str())?;
+    let test = test_text(alloc, 2, n)?;
+    text.push_str(test.as_str())?;
+    Ok(text)
 }
