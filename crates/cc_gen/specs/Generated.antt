@@ -32,12 +32,20 @@ calls_on s v = codes " if (n > 0) n = " ++ (s ++ (codes "(n - 1) + " ++ (v ++ co
 abbrev pub ended : List ℕ
 ended = codes " return n; }\n"
 
+-- what a file says of the function that it calls, and of its own variable
+unfoldable pub declarations : (other own callee : List ℕ) → List ℕ
+declarations other own callee = (external other ++ declared own) ++ prototype callee
+
+-- a function that writes its variable, calls another one, and reads that one's variable
+unfoldable pub definition : (caller own callee other : List ℕ) → List ℕ
+definition caller own callee other = (begun caller own ++ calls_on callee other) ++ ended
+
 -- Function j of component i, where the next component is k: it writes its variable, calls function j of the next
 -- component, and reads that one's variable.
 abbrev pub calling : (i k j : ℕ) → List ℕ
 calling i k j =
-    ((((external (variable k j) ++ declared (variable i j)) ++ prototype (function k j)) ++ begun (function i j) (variable i j))
-    ++ calls_on (function k j) (variable k j)) ++ ended
+    declarations (variable k j) (variable i j) (function k j)
+    ++ definition (function i j) (variable i j) (function k j) (variable k j)
 
 -- function j of the last component, i
 abbrev pub ending : (i j : ℕ) → List ℕ

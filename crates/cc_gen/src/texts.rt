@@ -64,6 +64,38 @@ fn calls_on(alloc: Global, function: &str, variable: &str) -> Result<String, All
     format!(in alloc; " if (n > 0) n = {function}(n - 1) + {variable};")
 }
 
+// What a file says of the function that it calls, and of its own variable.
+#[tactic(auto, unfolding(crate::specs::Generated::declarations))]
+fn declarations(alloc: Global, other: &str, own: &str, callee: &str) -> Result<String, AllocError>
+    ensures { IfOk result (λ text. string_bytes text ≡ spec.declarations other.now own.now callee.now) }
+{
+    let mut text = external(alloc, other)?;
+    let line = declared(alloc, own)?;
+    text.push_str(line.as_str())?;
+    let head = prototype(alloc, callee)?;
+    text.push_str(head.as_str())?;
+    Ok(text)
+}
+
+// A function that writes its variable, calls another one, and reads that one's variable.
+#[tactic(auto, unfolding(crate::specs::Generated::definition))]
+fn definition(
+    alloc: Global,
+    caller: &str,
+    own: &str,
+    callee: &str,
+    other: &str,
+) -> Result<String, AllocError>
+    ensures { IfOk result (λ text. string_bytes text
+        ≡ spec.definition caller.now own.now callee.now other.now) }
+{
+    let mut text = begun(alloc, caller, own)?;
+    let middle = calls_on(alloc, callee, other)?;
+    text.push_str(middle.as_str())?;
+    text.push_str(" return n; }\n")?;
+    Ok(text)
+}
+
 // Function j of component i, where the next component is k.
 fn calling(alloc: Global, i: u32, k: u32, j: u32) -> Result<String, AllocError>
     ensures { IfOk result (λ text. string_bytes text ≡ spec.calling i k j) }
@@ -72,16 +104,15 @@ fn calling(alloc: Global, i: u32, k: u32, j: u32) -> Result<String, AllocError>
     let other = variable(alloc, k, j)?;
     let caller = function(alloc, i, j)?;
     let callee = function(alloc, k, j)?;
-    let mut text = external(alloc, other.as_str())?;
-    let line = declared(alloc, own.as_str())?;
+    let mut text = declarations(alloc, other.as_str(), own.as_str(), callee.as_str())?;
+    let line = definition(
+        alloc,
+        caller.as_str(),
+        own.as_str(),
+        callee.as_str(),
+        other.as_str(),
+    )?;
     text.push_str(line.as_str())?;
-    let head = prototype(alloc, callee.as_str())?;
-    text.push_str(head.as_str())?;
-    let start = begun(alloc, caller.as_str(), own.as_str())?;
-    text.push_str(start.as_str())?;
-    let middle = calls_on(alloc, callee.as_str(), other.as_str())?;
-    text.push_str(middle.as_str())?;
-    text.push_str(" return n; }\n")?;
     Ok(text)
 }
 

@@ -22,6 +22,7 @@ use Rattle.cc_record_laws.proofs.Exact.{eqb_is}
 use Rattle.cc_record_tables.specs.declared.slot.Slot.{Slot}
 use Rattle.cc_record_tables.specs.Slots.{defined, passed, due_in, fresh_in}
 use Rattle.cc_record_tables.specs.CellTable.{slot_of}
+use Rattle.cc_record_tables.specs.Sets.{seen_in}
 use Rattle.cc_record_tables.specs.ActivationTable as table
 use Rattle.cc_record_tables.specs.ActivationTable.{answers_of, SameAnswers}
 use Rattle.cc_record.specs.declared.recorder.Recorder.{Recorder}
@@ -39,7 +40,7 @@ module _ (old new : Recorder) (keeps : Keeps old new) where
   -- only cells have changed
   module _ (opens : new.opened.items ≡ old.opened.items) (acts : SameAnswers (answers_of old.activations) (answers_of new.activations)) where
     -- a cell is written
-    pub define_does : (o : ℕ) (x : Cell) (a : ℕ) → new.seen ≡ old.seen
+    pub define_does : (o : ℕ) (x : Cell) (a : ℕ) → seen_in new.seen ≡ seen_in old.seen
         → ((c : Cell) → slot_of new.cells c ≡ cond (same_cell x c) (Some (defined o)) (slot_of old.cells c)) → Does old new (Def o x a)
     define_does o x a seen h = record {
       keeps = keeps;
@@ -53,12 +54,12 @@ module _ (old new : Recorder) (keeps : Keeps old new) where
           passing = λ b n. acts.passing b n;
           stack = ap reverse opens;
         };
-        adds = adds_now (roles old) (kept_of old) (Def o x a) None old.seen new.seen (gives_none (roles old) (kept_of old) (Def o x a) (none_def (roles old) (kept_of old) o x a)) (same_list old.seen new.seen seen);
+        adds = adds_now (roles old) (kept_of old) (Def o x a) None (seen_in old.seen) (seen_in new.seen) (gives_none (roles old) (kept_of old) (Def o x a) (none_def (roles old) (kept_of old) o x a)) (same_list (seen_in old.seen) (seen_in new.seen) seen);
       };
     }
 
     -- a formal is passed
-    pub pass_does : (s n : ℕ) (x : Cell) (a : ℕ) → new.seen ≡ old.seen
+    pub pass_does : (s n : ℕ) (x : Cell) (a : ℕ) → seen_in new.seen ≡ seen_in old.seen
         → ((c : Cell) → slot_of new.cells c ≡ cond (same_cell x c)
         (Some (passed ((roles old).argument s n) (record { site = s; k = n; entry = (kept_of old).entry a; definition = (kept_of old).passing a n }))) (slot_of old.cells c))
         → Does old new (Pass s n x a)
@@ -76,12 +77,12 @@ module _ (old new : Recorder) (keeps : Keeps old new) where
               passing = λ b m. acts.passing b m;
               stack = ap reverse opens;
             };
-            adds = adds_now (roles old) (kept_of old) (Pass s n x a) None old.seen new.seen (gives_none (roles old) (kept_of old) (Pass s n x a) (none_pass (roles old) (kept_of old) s n x a)) (same_list old.seen new.seen seen);
+            adds = adds_now (roles old) (kept_of old) (Pass s n x a) None (seen_in old.seen) (seen_in new.seen) (gives_none (roles old) (kept_of old) (Pass s n x a) (none_pass (roles old) (kept_of old) s n x a)) (same_list (seen_in old.seen) (seen_in new.seen) seen);
           };
         }
 
     -- an instance ends
-    pub gone_does : (n : ℕ) → new.seen ≡ old.seen → ((c : Cell) → slot_of new.cells c ≡ cond (nat_eq n c.instance) None (slot_of old.cells c)) → Does old new (Gone n)
+    pub gone_does : (n : ℕ) → seen_in new.seen ≡ seen_in old.seen → ((c : Cell) → slot_of new.cells c ≡ cond (nat_eq n c.instance) None (slot_of old.cells c)) → Does old new (Gone n)
     gone_does n seen h = record {
       keeps = keeps;
       steps = λ few once. record {
@@ -94,12 +95,12 @@ module _ (old new : Recorder) (keeps : Keeps old new) where
           passing = λ b m. acts.passing b m;
           stack = ap reverse opens;
         };
-        adds = adds_now (roles old) (kept_of old) (Gone n) None old.seen new.seen (gives_none (roles old) (kept_of old) (Gone n) (none_gone (roles old) (kept_of old) n)) (same_list old.seen new.seen seen);
+        adds = adds_now (roles old) (kept_of old) (Gone n) None (seen_in old.seen) (seen_in new.seen) (gives_none (roles old) (kept_of old) (Gone n) (none_gone (roles old) (kept_of old) n)) (same_list (seen_in old.seen) (seen_in new.seen) seen);
       };
     }
 
     -- the environment is asked
-    pub ask_does : (s : ℕ) (g : FuncId) (a : ℕ) → new.seen ≡ old.seen → ((c : Cell) → slot_of new.cells c ≡ slot_of old.cells c) → Does old new (Ask s g a)
+    pub ask_does : (s : ℕ) (g : FuncId) (a : ℕ) → seen_in new.seen ≡ seen_in old.seen → ((c : Cell) → slot_of new.cells c ≡ slot_of old.cells c) → Does old new (Ask s g a)
     ask_does s g a seen h = record {
       keeps = keeps;
       steps = λ few once. record {
@@ -112,7 +113,7 @@ module _ (old new : Recorder) (keeps : Keeps old new) where
           passing = λ b m. acts.passing b m;
           stack = ap reverse opens;
         };
-        adds = adds_now (roles old) (kept_of old) (Ask s g a) None old.seen new.seen (gives_none (roles old) (kept_of old) (Ask s g a) (none_ask (roles old) (kept_of old) s g a)) (same_list old.seen new.seen seen);
+        adds = adds_now (roles old) (kept_of old) (Ask s g a) None (seen_in old.seen) (seen_in new.seen) (gives_none (roles old) (kept_of old) (Ask s g a) (none_ask (roles old) (kept_of old) s g a)) (same_list (seen_in old.seen) (seen_in new.seen) seen);
       };
     }
 
@@ -122,7 +123,7 @@ module _ (old new : Recorder) (keeps : Keeps old new) where
       (entry : (b : ℕ) → (answers_of new.activations).entry b ≡ (answers_of old.activations).entry b)
       (passing : (b n : ℕ) → (answers_of new.activations).passing b n ≡ (answers_of old.activations).passing b n)
       (read : (b u : ℕ) → is_asked old.asked.items u ≡ true → (answers_of new.activations).read b u ≡ cond (cond (nat_eq o u) (nat_eq a b) false) (wrote (slot_of old.cells x)) ((answers_of old.activations).read b u))
-      (adds : Adds (gives.read (roles old) o x (slot_of old.cells x)) old.seen new.seen) where
+      (adds : Adds (gives.read (roles old) o x (slot_of old.cells x)) (seen_in old.seen) (seen_in new.seen)) where
     pub read_does : Does old new (Use o x a)
     read_does = record {
       keeps = keeps;
@@ -136,7 +137,7 @@ module _ (old new : Recorder) (keeps : Keeps old new) where
           passing = passing;
           stack = ap reverse opens;
         };
-        adds = adds_now (roles old) (kept_of old) (Use o x a) (gives.read (roles old) o x (slot_of old.cells x)) old.seen new.seen
+        adds = adds_now (roles old) (kept_of old) (Use o x a) (gives.read (roles old) o x (slot_of old.cells x)) (seen_in old.seen) (seen_in new.seen)
             (gives_use (roles old) (kept_of old) o x a (slot_of old.cells x) refl refl) adds;
       };
     }
@@ -147,7 +148,7 @@ module _ (old new : Recorder) (keeps : Keeps old new) where
         → ((b : ℕ) → (answers_of new.activations).entry b ≡ cond (nat_eq a b) (entry_by s g) ((answers_of old.activations).entry b))
         → ((b n : ℕ) → (answers_of new.activations).passing b n ≡ cond (nat_eq a b) (passing_by (roles old) (kept_of old) n (Enter s g a)) ((answers_of old.activations).passing b n))
         → ((b u : ℕ) → (answers_of new.activations).read b u ≡ (answers_of old.activations).read b u)
-        → Adds (gives.call (roles old) s g) old.seen new.seen → Does old new (Enter s g a)
+        → Adds (gives.call (roles old) s g) (seen_in old.seen) (seen_in new.seen) → Does old new (Enter s g a)
     enter_does s g a opens entry passing read adds = record {
       keeps = keeps;
       steps = λ few once. record {
@@ -160,7 +161,7 @@ module _ (old new : Recorder) (keeps : Keeps old new) where
           passing = passing;
           stack = opens;
         };
-        adds = adds_now (roles old) (kept_of old) (Enter s g a) (gives.call (roles old) s g) old.seen new.seen (gives_enter (roles old) (kept_of old) s g a) adds;
+        adds = adds_now (roles old) (kept_of old) (Enter s g a) (gives.call (roles old) s g) (seen_in old.seen) (seen_in new.seen) (gives_enter (roles old) (kept_of old) s g a) adds;
       };
     }
       where
@@ -178,7 +179,7 @@ module _ (old new : Recorder) (keeps : Keeps old new) where
 
     pub leave_does : (r : Option ℕ) (a : ℕ) → (Distinct (reverse old.opened.items) → reverse new.opened.items ≡ without a (reverse old.opened.items))
         → SameAnswers (table.without a (answers_of old.activations)) (answers_of new.activations)
-        → Adds (left_gives r a) old.seen new.seen → Does old new (Leave r a)
+        → Adds (left_gives r a) (seen_in old.seen) (seen_in new.seen) → Does old new (Leave r a)
     leave_does r a opens acts adds = record {
       keeps = keeps;
       steps = λ few once. record {
@@ -191,7 +192,7 @@ module _ (old new : Recorder) (keeps : Keeps old new) where
           passing = λ b m. acts.passing b m;
           stack = opens once;
         };
-        adds = adds_now (roles old) (kept_of old) (Leave r a) (left_gives r a) old.seen new.seen (leave_one r a) adds;
+        adds = adds_now (roles old) (kept_of old) (Leave r a) (left_gives r a) (seen_in old.seen) (seen_in new.seen) (leave_one r a) adds;
       };
     }
 
@@ -207,9 +208,9 @@ stands_more P old new e told d s = record {
       let before = watches.front told e orderly in
       let for = s.stands few' before in
       let once : Distinct (reverse old.opened.items) = subst Distinct (sym for.same.stack) (watches.once (roles old) told before) in
-      let more = watches.more (roles old) (is_asked old.asked.items) s.asks (kept_of old) (kept_of new) old.seen new.seen e (d.steps few' once) told for in
-      subst (λ (p : Program). StandsFor (roles_of p) (is_asked new.asked.items) (kept_of new) new.seen (told ++ e ∷ [])) (sym d.keeps.program)
-      (subst (λ (l : List Bool). StandsFor (roles old) (is_asked l) (kept_of new) new.seen (told ++ e ∷ [])) (sym d.keeps.asked) more);
+      let more = watches.more (roles old) (is_asked old.asked.items) s.asks (kept_of old) (kept_of new) (seen_in old.seen) (seen_in new.seen) e (d.steps few' once) told for in
+      subst (λ (p : Program). StandsFor (roles_of p) (is_asked new.asked.items) (kept_of new) (seen_in new.seen) (told ++ e ∷ [])) (sym d.keeps.program)
+      (subst (λ (l : List Bool). StandsFor (roles old) (is_asked l) (kept_of new) (seen_in new.seen) (told ++ e ∷ [])) (sym d.keeps.asked) more);
 }
   where
     asks' : Asks (roles new) (is_asked new.asked.items)
@@ -223,27 +224,27 @@ stands_still P old new told d s = record {
   stands = λ few orderly.
       let few' : AreFew (roles old) = subst (λ (p : Program). AreFew (roles_of p)) d.keeps.program few in
       let for = s.stands few' orderly in
-      let still : StandsFor (roles old) (is_asked old.asked.items) (kept_of new) new.seen told = record {
+      let still : StandsFor (roles old) (is_asked old.asked.items) (kept_of new) (seen_in new.seen) told = record {
         same = both_same (is_asked old.asked.items) (kept_of new) (kept_of old) _ d.same for.same;
         exact = λ q. subst (λ (l : List Coupling). Contains l q ↔ RecordedFrom (roles old) start told q) (sym d.seen) (for.exact q);
       } in
-      subst (λ (p : Program). StandsFor (roles_of p) (is_asked new.asked.items) (kept_of new) new.seen told) (sym d.keeps.program)
-      (subst (λ (l : List Bool). StandsFor (roles old) (is_asked l) (kept_of new) new.seen told) (sym d.keeps.asked) still);
+      subst (λ (p : Program). StandsFor (roles_of p) (is_asked new.asked.items) (kept_of new) (seen_in new.seen) told) (sym d.keeps.program)
+      (subst (λ (l : List Bool). StandsFor (roles old) (is_asked l) (kept_of new) (seen_in new.seen) told) (sym d.keeps.asked) still);
 }
   where
     asks' : Asks (roles new) (is_asked new.asked.items)
     asks' = subst (λ (p : Program). Asks (roles_of p) (is_asked new.asked.items)) (sym d.keeps.program) (subst (λ (l : List Bool). Asks (roles old) (is_asked l)) (sym d.keeps.asked) s.asks)
 
 -- its set is what the list exercises
-pub seen_is : (P : Program) (r : Recorder) (told : List Event) → Stands P r told → AreFew (roles_of P) → IsOrderly told → (q : Coupling) → Contains r.seen q ↔ Exercised (roles_of P) told q
+pub seen_is : (P : Program) (r : Recorder) (told : List Event) → Stands P r told → AreFew (roles_of P) → IsOrderly told → (q : Coupling) → Contains (seen_in r.seen) q ↔ Exercised (roles_of P) told q
 seen_is P r told s few orderly q =
     let few' : AreFew (roles r) = subst (λ (p : Program). AreFew (roles_of p)) (sym s.program) few in
-    subst (λ (p : Program). Contains r.seen q ↔ Exercised (roles_of p) told q) s.program
-    (watches.has (roles r) (is_asked r.asked.items) (kept_of r) r.seen told (s.stands few' orderly) orderly q)
+    subst (λ (p : Program). Contains (seen_in r.seen) q ↔ Exercised (roles_of p) told q) s.program
+    (watches.has (roles r) (is_asked r.asked.items) (kept_of r) (seen_in r.seen) told (s.stands few' orderly) orderly q)
 
 -- with empty tables it stands for the empty list
 pub stands_empty : (P : Program) (r : Recorder) → program_of r ≡ P → Asks (roles r) (is_asked r.asked.items)
-    → ((c : Cell) → slot_of r.cells c ≡ None) → SameAnswers table.nothing (answers_of r.activations) → r.opened.items ≡ [] → r.seen ≡ [] → Stands P r []
+    → ((c : Cell) → slot_of r.cells c ≡ None) → SameAnswers table.nothing (answers_of r.activations) → r.opened.items ≡ [] → (seen_in r.seen) ≡ [] → Stands P r []
 stands_empty P r is asks cells acts opens seen = record {
   program = is;
   asks = asks;

@@ -13,6 +13,7 @@ use Rattle.cc_record_tables.specs.declared.slot.Slot.{Slot}
 use Rattle.cc_record_tables.specs.Slots.{due_in, fresh_in}
 use Rattle.cc_record_tables.specs.CellTable.{slot_of}
 use Rattle.cc_record_tables.specs.ActivationTable.{answers_of}
+use Rattle.cc_record_tables.specs.Sets.{seen_in}
 use Rattle.cc_roles.specs.Calls.{arguments}
 use Rattle.cc_roles.specs.Names.{named, returned}
 use Rattle.cc_record.specs.declared.recorder.Recorder.{Recorder}
@@ -58,7 +59,7 @@ AreFew R = (o : ℕ) → R.component o < 64
 pub record Stands (P : Program) (r : Recorder) (told : List Event) : Type 0 where
   pub program : program_of r ≡ P
   pub asks : Asks (roles r) (is_asked r.asked.items)
-  pub stands : AreFew (roles r) → IsOrderly told → StandsFor (roles r) (is_asked r.asked.items) (kept_of r) r.seen told
+  pub stands : AreFew (roles r) → IsOrderly told → StandsFor (roles r) (is_asked r.asked.items) (kept_of r) (seen_in r.seen) told
 
 -- the program and what is asked for stay
 pub record Keeps (old new : Recorder) : Type 0 where
@@ -69,13 +70,13 @@ pub record Keeps (old new : Recorder) : Type 0 where
 pub record Does (old new : Recorder) (e : Event) : Type 0 where
   pub keeps : Keeps old new
   pub steps : AreFew (roles old) → Distinct (reverse old.opened.items)
-      → Steps (roles old) (is_asked old.asked.items) (kept_of old) old.seen (kept_of new) new.seen e
+      → Steps (roles old) (is_asked old.asked.items) (kept_of old) (seen_in old.seen) (kept_of new) (seen_in new.seen) e
 
 -- both answer alike
 pub record Stays (old new : Recorder) : Type 0 where
   pub keeps : Keeps old new
   pub same : IsSame (is_asked old.asked.items) (kept_of new) (kept_of old)
-  pub seen : new.seen ≡ old.seen
+  pub seen : seen_in new.seen ≡ seen_in old.seen
 
 -- the definition of an argument, by what the activation on top has read
 abbrev pub argument_now : Recorder → ℕ → Option ℕ

@@ -6,6 +6,7 @@ ghost use Rattle.cc_meaning.specs.declared.coupling.Coupling.{Coupling};
 ghost use Rattle.cc_program.specs.declared.program.Program.{Program};
 ghost use Rattle.cc_record_laws.specs.Exercised.{Exercised};
 ghost use Rattle.cc_record_laws.specs.Orderly.{IsOrderly};
+ghost use Rattle.cc_record_tables.specs.Sets.{seen_in};
 ghost use Rattle.cc_record.specs.Roles.{numbered, roles_of};
 ghost use Rattle.cc_record.specs.Recording as spec;
 ghost use Rattle.cc_record.specs.Recording.{Does, Stays, Stands, AreFew};
@@ -52,7 +53,7 @@ impl<'p> Recorder<'p> {
     /// The couplings that the events exercise. Takes no memory.
     pub fn exercised(&self) -> &CouplingSet
         ensures { (p : Program) (told : List Event) → Stands p self.now told → AreFew (roles_of p) → IsOrderly told
-            → (q : Coupling) → Contains result.now q ↔ Exercised (roles_of p) told q }
+            → (q : Coupling) → Contains (seen_in result.now) q ↔ Exercised (roles_of p) told q }
     {
         &self.seen
     }

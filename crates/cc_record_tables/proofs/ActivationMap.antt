@@ -113,17 +113,17 @@ read_none old act occ d h = record {
   read = λ q u. never_if (nat_eq act q && nat_eq occ u) (has_read_place old act occ) d (reads_in (get nat_eq old.live q) u) (ap (λ a. has_place_of a occ) h);
 }
 
+none_in : (xs : List (Option ℕ)) (m : ℕ) → xs ≡ [] → or_none (slice_get xs m) ≡ None
+none_in [] m e = refl
+none_in (x ∷ xs) m e = absurd (let z = e in cc)
+
+passed_empty : (xs : List (Option ℕ)) (n : ℕ) → xs ≡ [] → passed xs n ≡ None
+passed_empty xs n e = ap (λ (x : Option ℕ). cond (nat_eq n 0) None x) (none_in xs (n - 1) e) ∙ same_if (nat_eq n 0) None
+
 -- a new activation of which nothing is kept
 pub empty_place : (old new : Activations) (act : ℕ) (a : Activation) → get nat_eq old.live act ≡ None → a.entry ≡ None → a.passing.items ≡ [] → a.reads.items ≡ [] → Turns old act (Some a) new
     → SameAnswers (answers_of old) (answers_of new)
-empty_place old new act a h e p r t = same_turned old new act (Some a) t None h e (λ n. ap (λ l. passed l n) p ∙ none_passed n) (λ u. ap (λ l. read_in l u) r)
-  where
-    none_passed : (n : ℕ) → passed [] n ≡ None
-    none_passed n = by (nat_eq n 0)
-      where
-        by : (b : Bool) → cond b None (or_none (slice_get [] (n - 1))) ≡ None
-        by true = refl
-        by false = refl
+empty_place old new act a h e p r t = same_turned old new act (Some a) t None h e (λ n. passed_empty a.passing.items n p) (λ u. ap (λ l. read_in l u) r)
 
 pub answers_on : (a b c : Activations) → SameAnswers (answers_of a) (answers_of b) → SameAnswers (answers_of b) (answers_of c) → SameAnswers (answers_of a) (answers_of c)
 answers_on a b c g h = record {

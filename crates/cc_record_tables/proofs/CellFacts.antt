@@ -1,10 +1,11 @@
 -- What is kept of cells, after one is put or replaced.
 use Rattle.std.proofs.Common.{◌≡◌, ℕ, zero, suc, ◌+◌, ◌<◌, ◌≤◌, List, [], ◌∷◌, ◌++◌, length, ⊎_elim, Option, Some, None, Bool, true, false, refl, sym, ap, ◌∙◌, subst, arith, cond, eq-eqb}
-use Rattle.std.specs.Prelude.{nat_eq, nat_lt, slice_get, slice_set, ◌&&◌}
+use Rattle.std.specs.Prelude.{nat_eq, nat_lt, slice_get, slice_set, slice_index_or, ◌&&◌}
+use Rattle.std.proofs.lemmas.Option.{slice_get-get_or}
 use Rattle.std.proofs.lemmas.Bool.{cases_eq, cases_lt, ne_eqb, lt-ltb, ltb-true}
 use Rattle.cc_record_tables.specs.declared.slot.Slot.{Slot}
 use Rattle.cc_record_tables.specs.declared.cells.Row.{Row}
-use Rattle.cc_record_tables.specs.CellTable.{or_none, at, row_slot, SameSlots, PutsSlot, slot_in, place_from, has_place_in, SameRows, Puts, Replaces}
+use Rattle.cc_record_tables.specs.CellTable.{or_none, at, row_slot, SameSlots, PutsSlot, ReplacesSlot, slot_in, place_from, has_place_in, SameRows, Puts, Replaces}
 
 eqb_is : (a b : ℕ) → nat_eq a b ≡ true → a ≡ b
 eqb_is a b h = ⊎_elim (λ same. same) (λ ne. absurd (let z = sym (ne_eqb a b ne) ∙ h in cc)) (cases_eq a b)
@@ -19,13 +20,44 @@ at_more (x ∷ slots) (suc i) = at_more slots i
 pub same_more : (old new : List (Option Slot)) → SameSlots old new → SameSlots old (new ++ None ∷ [])
 same_more old new h i = at_more new i ∙ h i
 
+ne_zero : (n : ℕ) → nat_eq 0 (suc n) ≡ false
+ne_zero n = ne_eqb 0 (suc n) (λ e. absurd (omega (arith, e)))
+
+zero_ne : (n : ℕ) → nat_eq (suc n) 0 ≡ false
+zero_ne n = ne_eqb (suc n) 0 (λ e. absurd (omega (arith, e)))
+
+eq_suc : (a b : ℕ) → nat_eq (suc a) (suc b) ≡ nat_eq a b
+eq_suc a b = ⊎_elim
+    (λ e. eq-eqb (suc a) (suc b) (ap suc e) ∙ sym (eq-eqb a b e))
+    (λ ne. ne_eqb (suc a) (suc b) (λ e. ne (omega (arith, e))) ∙ sym (ne_eqb a b ne))
+    (cases_eq a b)
+
 -- a slot is set at an index within
 pub at_set : (slots : List (Option Slot)) (index : ℕ) (slot : Slot) → index < length slots → PutsSlot slots index slot (slice_set slots index (Some slot))
 at_set [] index slot h i = absurd (omega arith)
 at_set (x ∷ slots) zero slot h zero = refl
-at_set (x ∷ slots) zero slot h (suc i) = refl
-at_set (x ∷ slots) (suc index) slot h zero = refl
-at_set (x ∷ slots) (suc index) slot h (suc i) = at_set slots index slot (omega arith) i
+at_set (x ∷ slots) zero slot h (suc i) = ap (λ b. cond b (Some slot) (at slots i)) (sym (ne_zero i))
+at_set (x ∷ slots) (suc index) slot h zero = ap (λ b. cond b (Some slot) x) (sym (zero_ne index))
+at_set (x ∷ slots) (suc index) slot h (suc i) = at_set slots index slot (omega arith) i ∙ ap (λ b. cond b (Some slot) (at slots i)) (sym (eq_suc index i))
+
+-- a slot is set where it has a place
+pub replaced_slot : (slots : List (Option Slot)) (index : ℕ) (slot : Slot) → index < length slots → ReplacesSlot slots index slot (slice_set slots index (Some slot))
+replaced_slot slots index slot h i = at_set slots index slot h i ∙ more (nat_eq index i) (nat_lt index (length slots)) (lt-ltb index (length slots) h) (Some slot) (at slots i)
+  where
+    more : {X : Type 0} (b c : Bool) → c ≡ true → (x z : X) → cond b x z ≡ cond (b && c) x z
+    more true c h x z = ap (λ c. cond c x z) (sym h)
+    more false c h x z = refl
+
+pub kept_slot : (slots : List (Option Slot)) (index : ℕ) (slot : Slot) → length slots ≤ index → ReplacesSlot slots index slot slots
+kept_slot slots index slot h i = none (nat_eq index i) (nat_lt index (length slots)) (past (nat_lt index (length slots)) refl)
+  where
+    past : (c : Bool) → nat_lt index (length slots) ≡ c → c ≡ false
+    past true e = absurd (let lt = ltb-true index (length slots) e in omega arith)
+    past false e = refl
+
+    none : (b c : Bool) → c ≡ false → at slots i ≡ cond (b && c) (Some slot) (at slots i)
+    none true c h = ap (λ c. cond c (Some slot) (at slots i)) (sym h)
+    none false c h = refl
 
 pub put_after : (old mid new : List (Option Slot)) (index : ℕ) (slot : Slot) → SameSlots old mid → PutsSlot mid index slot new → PutsSlot old index slot new
 put_after old mid new index slot s p i = p i ∙ ap (λ x. cond (nat_eq index i) (Some slot) x) (s i)
@@ -189,3 +221,22 @@ replaces_put old new object index slot h p o i = p o i ∙ further (nat_eq objec
 
 pub replaces_none : (rows : List Row) (object index : ℕ) (slot : Slot) → has_place_in rows object index ≡ false → Replaces rows object index slot rows
 replaces_none rows object index slot h o i = never (nat_eq object o && nat_eq index i) (has_place_in rows object index) (Some slot) (slot_in rows o i) h
+
+-- what is replaced in the row of the object is replaced
+pub replaces_placed : (rows : List Row) (object k index : ℕ) (slot : Slot) (r r' : Row) → PlacedAt rows object k → slice_get rows k ≡ Some r → r'.object ≡ r.object
+    → ReplacesSlot r.slots.items index slot r'.slots.items → Replaces rows object index slot (slice_set rows k r')
+replaces_placed rows object k index slot r r' p g same put o i =
+    let is = placed_object rows object k r p g in
+    slot_set rows object k r' p (same ∙ is) o i
+    ∙ (when object o (row_slot r' i) (cond (nat_eq index i && has_place_in rows object index) (Some slot) (slot_in rows o i)) (slot_in rows o i)
+    (λ e. put i
+    ∙ (ap (λ c. cond (nat_eq index i && c) (Some slot) (row_slot r i)) (sym (place_placed rows object k r p g index))
+    ∙ ap (λ t. cond (nat_eq index i && has_place_in rows object index) (Some slot) t) (sym (slot_placed rows object k r p g i) ∙ ap (λ x. slot_in rows x i) (eqb_is object o e))))
+    ∙ flat (nat_eq object o) (nat_eq index i) (has_place_in rows object index) (Some slot) (slot_in rows o i))
+  where
+    flat : {X : Type 0} (a b c : Bool) (x z : X) → cond a (cond (b && c) x z) z ≡ cond ((a && b) && c) x z
+    flat true b c x z = refl
+    flat false b c x z = refl
+
+pub row_at : (rows : List Row) (k : ℕ) (r : Row) → k < length rows → r ≡ slice_index_or rows k r → slice_get rows k ≡ Some r
+row_at rows k r lt e = slice_get-get_or rows k r lt ∙ ap Some (sym e)

@@ -25,6 +25,10 @@ SameSlots old new = (i : ℕ) → at new i ≡ at old i
 abbrev pub PutsSlot : List (Option Slot) → ℕ → Slot → List (Option Slot) → Type 0
 PutsSlot old index slot new = (i : ℕ) → at new i ≡ cond (nat_eq index i) (Some slot) (at old i)
 
+-- the same where the index has a place; else nothing changes
+abbrev pub ReplacesSlot : List (Option Slot) → ℕ → Slot → List (Option Slot) → Type 0
+ReplacesSlot old index slot new = (i : ℕ) → at new i ≡ cond (nat_eq index i && nat_lt index (length old)) (Some slot) (at old i)
+
 -- what is kept of a cell of these objects
 abbrev pub slot_in : List Row → ℕ → ℕ → Option Slot
 slot_in [] object index = None

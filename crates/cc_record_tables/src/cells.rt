@@ -3,7 +3,7 @@ ghost use Rattle.std.specs.Prelude.{◌≡◌, ◌<◌, [], cond, nat_eq, None, 
 ghost use Rattle.cc_meaning.specs.declared.event.Cell.{Cell};
 ghost use Rattle.cc_record_laws.specs.Past.{same_cell};
 ghost use Rattle.cc_record_tables.specs.CellTable as spec;
-ghost use Rattle.cc_record_tables.specs.CellTable.{SameSlots, PutsSlot, SameRows, Puts, Replaces};
+ghost use Rattle.cc_record_tables.specs.CellTable.{SameSlots, PutsSlot, ReplacesSlot, SameRows, Puts, Replaces};
 
 use crate::slot::Slot;
 use cc_base::Memory;
@@ -60,6 +60,7 @@ fn place(rows: &[Row], object: u32) -> Option<usize>
 }
 
 // Makes places up to this index.
+#[tactic(auto, using(crate::proofs::CellFacts::same_more))]
 fn make_places(slots: &mut Vec<Option<Slot>>, index: u32) -> Result<(), Memory>
     ensures same { SameSlots slots.old.items slots.new.items }
     ensures room { OnOk result (index < length slots.new.items) }
@@ -71,6 +72,7 @@ fn make_places(slots: &mut Vec<Option<Slot>>, index: u32) -> Result<(), Memory>
 }
 
 // Keeps this of a cell of an object.
+#[tactic(auto, using(crate::proofs::CellFacts::at_set, crate::proofs::CellFacts::put_after))]
 fn put_in_row(row: &mut Row, index: u32, slot: Slot) -> Result<(), Memory>
     ensures object { row.new.object ≡ row.old.object }
     ensures put { OnOk result (PutsSlot row.old.slots.items index slot row.new.slots.items) }
@@ -124,14 +126,23 @@ fn new_rows(alloc: Global, object: u32, index: u32, slot: Slot) -> Result<Vec<Ro
     Ok(rows)
 }
 
-// Keeps this of a cell of which something is kept, and else nothing.
+// Keeps this of a cell of an object, if it has a place.
+#[tactic(auto, using(crate::proofs::CellFacts::replaced_slot, crate::proofs::CellFacts::kept_slot))]
+fn replace_in_row(row: &mut Row, index: u32, slot: Slot)
+    ensures object { row.new.object ≡ row.old.object }
+    ensures put { ReplacesSlot row.old.slots.items index slot row.new.slots.items }
+{
+    if (index as usize) < row.slots.len() {
+        row.slots[index as usize] = Some(slot);
+    }
+}
+
+// Keeps this of a cell of these objects, if it has a place.
 fn replace_in_rows(rows: &mut Vec<Row>, object: u32, index: u32, slot: Slot)
     ensures { Replaces rows.old.items object index slot rows.new.items }
 {
     if let Some(i) = place(rows, object) {
-        if (index as usize) < rows[i].slots.len() {
-            rows[i].slots[index as usize] = Some(slot);
-        }
+        replace_in_row(&mut rows[i], index, slot);
     }
 }
 

@@ -2,12 +2,12 @@
 ghost use Rattle.std.specs.Prelude.{◌≡◌, ◌↔◌, ◌⊎◌, IsTrue, OnOk, OnErr, Contains, []};
 ghost use Rattle.cc_meaning.specs.declared.coupling.Coupling.{Coupling};
 ghost use Rattle.cc_record_tables.specs.Keys as spec;
+ghost use Rattle.cc_record_tables.specs.Sets.{seen_in};
 
 use cc_base::Memory;
 use cc_meaning::Coupling;
 use indexmap::IndexSet;
 use std::alloc::Global;
-use std::marker::Model;
 
 // A coupling, as the set keeps it.
 #[derive(Clone, Copy, PartialEq, Eq, Hash)]
@@ -18,20 +18,10 @@ pub enum Key {
     Return(u32, u32, u32),
 }
 
-/// A set of couplings. A contract sees a list of them.
+/// A set of couplings. A contract sees a list of them, by `seen_in`.
 #[derive(Drop)]
 pub struct CouplingSet {
     keys: IndexSet<Key>,
-}
-
-impl Model for CouplingSet {
-    ghost use Rattle.std.specs.Prelude.{List, map};
-    ghost use Rattle.cc_meaning.specs.declared.coupling.Coupling.{Coupling};
-    ghost use Rattle.cc_record_tables.specs.Keys.{coupling_of};
-
-    ghost Value = { List Coupling };
-
-    ghost view = { λ s. map coupling_of s.keys.keys };
 }
 
 // How the set keeps a coupling.
@@ -63,7 +53,7 @@ fn key_of(coupling: &Coupling) -> Key
 impl CouplingSet {
     /// The empty set. Takes no memory.
     pub fn new(alloc: Global) -> CouplingSet
-        ensures { result ≡ [] }
+        ensures { seen_in result ≡ [] }
     {
         CouplingSet {
             keys: IndexSet::new(alloc),
@@ -72,15 +62,15 @@ impl CouplingSet {
 
     /// Whether the set has the coupling. Takes no memory.
     pub fn has(&self, coupling: &Coupling) -> bool
-        ensures { IsTrue result ↔ Contains self.now coupling.now }
+        ensures { IsTrue result ↔ Contains (seen_in self.now) coupling.now }
     {
         self.keys.contains(&key_of(coupling))
     }
 
     /// Adds a coupling. After an error the set is as it was.
     pub fn add(&mut self, coupling: &Coupling) -> Result<(), Memory>
-        ensures added { OnOk result ((q : Coupling) → Contains self.new q ↔ Contains self.old q ⊎ (q ≡ coupling.now)) }
-        ensures err { OnErr result (self.new ≡ self.old) }
+        ensures added { OnOk result ((q : Coupling) → Contains (seen_in self.new) q ↔ Contains (seen_in self.old) q ⊎ (q ≡ coupling.now)) }
+        ensures err { OnErr result (seen_in self.new ≡ seen_in self.old) }
     {
         self.keys.insert(key_of(coupling))?;
         Ok(())
@@ -88,7 +78,7 @@ impl CouplingSet {
 
     /// Takes all couplings out. Takes no memory.
     pub fn clear(&mut self)
-        ensures { self.new ≡ [] }
+        ensures { seen_in self.new ≡ [] }
     {
         self.keys.clear();
     }

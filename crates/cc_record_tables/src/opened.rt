@@ -28,6 +28,7 @@ fn place(acts: &[u64], act: u64) -> Option<usize>
 }
 
 // Takes an activation out, wherever it stands.
+#[tactic(auto, using(crate::proofs::OpenFacts::removed_first, crate::proofs::OpenFacts::none_left))]
 fn remove(acts: &mut Vec<u64>, act: u64)
     ensures { acts.new.items ≡ without act acts.old.items }
 {
@@ -47,6 +48,7 @@ fn is_last(acts: &[u64], act: u64) -> bool
 }
 
 /// Leaves an activation that was entered once.
+#[tactic(auto, using(crate::proofs::OpenFacts::closed_last, crate::proofs::OpenFacts::without_reverse))]
 pub fn finish(acts: &mut Vec<u64>, act: u64)
     ensures { Distinct (reverse acts.old.items) → reverse acts.new.items ≡ without act (reverse acts.old.items) }
 {
