@@ -1,8 +1,6 @@
 -- What a contract sees of a sink in memory with a room, whose puts fail where a list says so.
-use Rattle.std.specs.Prelude.{ℕ, ◌-◌, List, [], ◌++◌, length, take, Bool, true, false, cond, nat_lt, Result, Ok, Err}
+use Rattle.std.specs.Prelude.{ℕ, ◌-◌, List, ◌++◌, length, take, Bool, true, cond, nat_lt}
 use Rattle.cc_io.specs.Count.{one_more}
-use Rattle.cc_io.specs.declared.sink.SinkFault.{SinkFault}
-use Rattle.cc_io.specs.declared.sink.SinkFault.TheVariants.{Failed}
 use Rattle.cc_io_memory.specs.Calls.{is_listed}
 use Rattle.cc_io_memory.specs.declared.sink.MemorySink.{MemorySink}
 

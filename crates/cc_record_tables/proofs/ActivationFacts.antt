@@ -1,9 +1,9 @@
 -- What is kept of activations, after a change.
-use Rattle.std.proofs.Common.{◌≡◌, ℕ, zero, suc, ◌+◌, ◌<◌, List, [], ◌∷◌, ◌++◌, length, Option, Some, None, Bool, true, false, refl, sym, ap, ◌∙◌, subst, arith, cond, eq-eqb}
-use Rattle.std.specs.Prelude.{nat_eq, slice_get, slice_set, is_some, ◌&&◌}
+use Rattle.std.proofs.Common.{◌≡◌, ℕ, suc, ◌+◌, ◌<◌, List, [], ◌∷◌, ◌++◌, length, Option, Some, None, Bool, true, false, refl, sym, ap, ◌∙◌, subst, arith, cond, eq-eqb}
+use Rattle.std.specs.Prelude.{nat_eq, slice_set, is_some, ◌&&◌}
 use Rattle.cc_record_laws.proofs.Exact.{eqb_is}
 use Rattle.cc_record_tables.specs.declared.activations.Read.{Read}
-use Rattle.cc_record_tables.specs.ActivationTable.{read_in, place_from, has_place_in, SameReads}
+use Rattle.cc_record_tables.specs.ActivationTable.{read_in, place_from, has_place_in}
 
 -- a place at the end, where nothing was read
 pub read_behind : (reads : List Read) (r : Read) → r.definition ≡ None → (u : ℕ) → read_in (reads ++ r ∷ []) u ≡ read_in reads u

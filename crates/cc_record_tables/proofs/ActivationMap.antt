@@ -1,5 +1,5 @@
 -- What a table of activations answers, after one of them has changed.
-use Rattle.std.proofs.Common.{◌≡◌, ℕ, zero, suc, ◌-◌, List, [], ◌∷◌, Option, Some, None, Bool, true, false, refl, sym, ap, ◌∙◌, cond}
+use Rattle.std.proofs.Common.{◌≡◌, ℕ, ◌-◌, List, [], ◌∷◌, Option, Some, None, Bool, true, false, refl, sym, ap, ◌∙◌, cond}
 use Rattle.std.specs.Prelude.{nat_eq, slice_get, is_some, ◌&&◌}
 use Rattle.indexmap.specs.IndexMap.{get}
 use Rattle.cc_record_laws.specs.declared.kept.Entry.{Entry}
@@ -7,7 +7,7 @@ use Rattle.cc_record_laws.proofs.Exact.{eqb_is}
 use Rattle.cc_record_tables.specs.declared.activations.Activation.{Activation}
 use Rattle.cc_record_tables.specs.declared.activations.Activations.{Activations}
 use Rattle.cc_record_tables.specs.CellTable.{or_none}
-use Rattle.cc_record_tables.specs.ActivationTable.{read_in, has_place_in, passed, entry_in, passing_in, reads_in, answers_of, SameAnswers, SameReads, has_place, has_read_place, has_place_of, entered, with_read, without}
+use Rattle.cc_record_tables.specs.ActivationTable.{read_in, has_place_in, passed, entry_in, passing_in, reads_in, answers_of, SameAnswers, has_place, has_read_place, has_place_of, entered, with_read, without}
 
 -- the activation is this one now, and each other one stays
 abbrev pub Turns : Activations → ℕ → Option Activation → Activations → Type 0

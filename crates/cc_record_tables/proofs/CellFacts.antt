@@ -2,10 +2,10 @@
 use Rattle.std.proofs.Common.{◌≡◌, ℕ, zero, suc, ◌+◌, ◌<◌, ◌≤◌, List, [], ◌∷◌, ◌++◌, length, ⊎_elim, Option, Some, None, Bool, true, false, refl, sym, ap, ◌∙◌, subst, arith, cond, eq-eqb}
 use Rattle.std.specs.Prelude.{nat_eq, nat_lt, slice_get, slice_set, slice_index_or, ◌&&◌}
 use Rattle.std.proofs.lemmas.Option.{slice_get-get_or}
-use Rattle.std.proofs.lemmas.Bool.{cases_eq, cases_lt, ne_eqb, lt-ltb, ltb-true}
+use Rattle.std.proofs.lemmas.Bool.{cases_eq, ne_eqb, lt-ltb, ltb-true}
 use Rattle.cc_record_tables.specs.declared.slot.Slot.{Slot}
 use Rattle.cc_record_tables.specs.declared.cells.Row.{Row}
-use Rattle.cc_record_tables.specs.CellTable.{or_none, at, row_slot, SameSlots, PutsSlot, ReplacesSlot, slot_in, place_from, has_place_in, SameRows, Puts, Replaces}
+use Rattle.cc_record_tables.specs.CellTable.{at, row_slot, SameSlots, PutsSlot, ReplacesSlot, slot_in, place_from, has_place_in, SameRows, Puts, Replaces}
 
 eqb_is : (a b : ℕ) → nat_eq a b ≡ true → a ≡ b
 eqb_is a b h = ⊎_elim (λ same. same) (λ ne. absurd (let z = sym (ne_eqb a b ne) ∙ h in cc)) (cases_eq a b)

@@ -1,5 +1,5 @@
 -- What is kept of cells, after the objects of an instance have changed.
-use Rattle.std.proofs.Common.{◌≡◌, ℕ, zero, suc, ◌<◌, length, arith, List, [], ◌∷◌, ⊎_elim, Option, Some, None, Bool, true, false, refl, sym, ap, ◌∙◌, cond, Vec, Global}
+use Rattle.std.proofs.Common.{◌≡◌, ℕ, zero, suc, ◌<◌, length, arith, List, [], ◌∷◌, Option, Some, None, Bool, true, false, refl, sym, ap, ◌∙◌, cond, Vec, Global}
 use Rattle.std.specs.Prelude.{nat_eq, nat_lt, slice_get, ◌&&◌}
 use Rattle.std.proofs.lemmas.Bool.{lt-ltb}
 use Rattle.indexmap.specs.IndexMap.{get}
@@ -9,7 +9,7 @@ use Rattle.cc_record_laws.proofs.Exact.{eqb_is}
 use Rattle.cc_record_tables.specs.declared.slot.Slot.{Slot}
 use Rattle.cc_record_tables.specs.declared.cells.Row.{Row}
 use Rattle.cc_record_tables.specs.declared.cells.Cells.{Cells}
-use Rattle.cc_record_tables.specs.CellTable.{or_none, at, row_slot, slot_in, slot_among, slot_of, has_place_in, has_place_among, has_place, SameRows, Puts, Replaces}
+use Rattle.cc_record_tables.specs.CellTable.{or_none, at, row_slot, slot_in, slot_among, slot_of, has_place_in, has_place_among, has_place}
 
 -- one cell is another where instance, object and index are the same
 split : (x c : Cell) → same_cell x c ≡ (nat_eq x.instance c.instance && (nat_eq x.object c.object && nat_eq x.index c.index))

@@ -1,6 +1,6 @@
 -- Keys stand for couplings.
-use Rattle.std.proofs.Common.{◌≡◌, ℕ, suc, arith, List, [], ◌∷◌, ◌++◌, ◌⊎◌, inl, inr, ⊎_elim, Bool, true, false, refl, sym, ap, ◌∙◌, subst, rules, if◌then◌else◌, ◌||◌}
-use Rattle.std.specs.Prelude.{◌↔◌, Contains, map, IsTrue}
+use Rattle.std.proofs.Common.{◌≡◌, suc, arith, List, [], ◌∷◌, ◌++◌, ◌⊎◌, inl, inr, ⊎_elim, Bool, true, false, refl, sym, ap, ◌∙◌, subst, rules, if◌then◌else◌, ◌||◌}
+use Rattle.std.specs.Prelude.{◌↔◌, Contains, map}
 use Rattle.std.specs.List.{list_any}
 use Rattle.indexmap.specs.IndexSet.{insert_key}
 use Rattle.std.proofs.lemmas.List.Elements.{Contains-push, Contains-push_cases, Contains-append_left, Contains-append_cases}

@@ -1,5 +1,5 @@
 -- What is kept of each live activation.
-use Rattle.std.specs.Prelude.{◌≡◌, ℕ, zero, suc, ◌+◌, ◌-◌, List, [], ◌∷◌, Bool, true, false, ◌&&◌, Option, Some, None, cond, is_some, nat_eq, slice_get}
+use Rattle.std.specs.Prelude.{◌≡◌, ℕ, ◌+◌, ◌-◌, List, [], ◌∷◌, Bool, true, false, ◌&&◌, Option, Some, None, cond, is_some, nat_eq, slice_get}
 use Rattle.indexmap.specs.IndexMap.{get}
 use Rattle.cc_record_laws.specs.declared.kept.Entry.{Entry}
 use Rattle.cc_record_tables.specs.declared.activations.Activation.{Activation}

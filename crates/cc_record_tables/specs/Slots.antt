@@ -1,5 +1,5 @@
 -- What is kept of a cell.
-use Rattle.std.specs.Prelude.{ℕ, ◌*◌, ◌^◌, ◌%◌, Bool, true, false, cond, nat_eq, nat_lt, Option, Some, None, bit_or}
+use Rattle.std.specs.Prelude.{ℕ, ◌*◌, ◌^◌, ◌%◌, Bool, false, cond, nat_eq, nat_lt, Option, Some, None, bit_or}
 use Rattle.std.specs.Int.{bit_at}
 use Rattle.cc_record_laws.specs.declared.kept.Passed.{Passed}
 use Rattle.cc_record_tables.specs.declared.slot.Since.{Since}

@@ -1,4 +1,4 @@
-use Rattle.std.proofs.Common.{◌≡◌, [], ◌≤◌}
+use Rattle.std.proofs.Common.{◌≡◌, []}
 use Rattle.cc_io_memory.specs.Shelves.{deck_of}
 use Rattle.cc_gen.specs.Generated.{files_to}
 use Rattle.cc_gen.proofs.project.generate.Given as goal

@@ -1,7 +1,4 @@
-use Rattle.std.proofs.Common.{◌≡◌, true, ◌∙◌, ap, sym, refl, subst, List}
-use Rattle.std.specs.Prelude.{is_some}
-use Rattle.cc_record_tables.specs.ActivationTable.{read_in, has_place_in, place_from}
-use Rattle.cc_record_tables.specs.declared.activations.Read.{Read}
+use Rattle.std.proofs.Common.{refl}
 use Rattle.cc_record_tables.proofs.ActivationFacts.{place_is_some, read_behind, place_behind}
 use Rattle.cc_record_tables.proofs.activations.make_read_place.Goals as goal
 

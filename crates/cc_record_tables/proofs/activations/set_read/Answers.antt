@@ -1,4 +1,4 @@
-use Rattle.std.proofs.Common.{◌≡◌, ℕ, ◌<◌, Option, Some, None, length, arith}
+use Rattle.std.proofs.Common.{◌≡◌, Some, None, arith}
 use Rattle.cc_record_tables.specs.ActivationTable.{place_from}
 use Rattle.cc_record_tables.proofs.ActivationFacts.{read_set_first, read_set_none, place_none}
 use Rattle.cc_record_tables.proofs.activations.set_read.Goals as goal

@@ -1,8 +1,8 @@
-use Rattle.std.proofs.Common.{◌≡◌, ◌++◌, ◌∷◌, [], ℕ, ◌<◌, Option, Some, None, length, arith, List, Result, Ok, Err, OnOk, subst, sym}
+use Rattle.std.proofs.Common.{◌≡◌, Some, None, arith, List, Result, Ok, Err, OnOk, subst, sym}
 use Rattle.std.specs.Prelude.{OnErr}
 use Rattle.cc_record_tables.specs.declared.cells.Row.{Row}
 use Rattle.cc_record_tables.specs.CellTable.{place_from, Puts}
-use Rattle.cc_record_tables.proofs.CellFacts.{PlacedAt, placed_first, placed_within, placed_object, absent_first, puts_placed, same_placed, puts_behind, row_at}
+use Rattle.cc_record_tables.proofs.CellFacts.{placed_first, placed_within, placed_object, absent_first, puts_placed, same_placed, puts_behind, row_at}
 use Rattle.cc_record_tables.proofs.cells.put_in_rows.Goals as goal
 
 on_ok : {A E P Q : Type 0} (r : Result A E) → OnOk r P → (P → Q) → OnOk r Q

@@ -1,6 +1,6 @@
-use Rattle.std.proofs.Common.{◌≡◌, ℕ, ◌<◌, Option, Some, None, length, arith, List}
+use Rattle.std.proofs.Common.{◌≡◌, Some, None, arith}
 use Rattle.cc_record_tables.specs.CellTable.{place_from}
-use Rattle.cc_record_tables.proofs.CellFacts.{PlacedAt, placed_first, placed_within, place_absent, absent_first, replaces_placed, replaces_none, row_at}
+use Rattle.cc_record_tables.proofs.CellFacts.{placed_first, placed_within, place_absent, absent_first, replaces_placed, replaces_none, row_at}
 use Rattle.cc_record_tables.proofs.cells.replace_in_rows.Goals as goal
 
 pub index_mut-requires : goal.index_mut-requires

@@ -1,4 +1,4 @@
-use Rattle.std.proofs.Common.{◌≡◌, ℕ, ◌<◌, Option, Some, length, arith, List}
+use Rattle.std.proofs.Common.{◌≡◌, Some, arith}
 use Rattle.cc_record_tables.specs.Opened.{place_from}
 use Rattle.cc_record_tables.proofs.OpenFacts.{removed_first}
 use Rattle.cc_record_tables.proofs.opened.remove.Goals as goal

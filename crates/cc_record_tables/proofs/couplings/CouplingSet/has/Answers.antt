@@ -1,4 +1,4 @@
-use Rattle.std.proofs.Common.{◌≡◌, Bool, true, ◌∙◌, ap, sym}
+use Rattle.std.proofs.Common.{◌≡◌, ◌∙◌, ap, sym}
 use Rattle.std.specs.List.{list_any}
 use Rattle.cc_record_tables.specs.declared.couplings.Key.{Key}
 use Rattle.cc_record_tables.specs.Keys.{key_of, same_key}
