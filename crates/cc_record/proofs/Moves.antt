@@ -196,6 +196,23 @@ module _ (old new : Recorder) (keeps : Keeps old new) where
       };
     }
 
+-- both answer alike where the tables do
+pub stays_by : (old new : Recorder) → Keeps old new → ((c : Cell) → slot_of new.cells c ≡ slot_of old.cells c) → SameAnswers (answers_of old.activations) (answers_of new.activations)
+    → reverse new.opened.items ≡ reverse old.opened.items → seen_in new.seen ≡ seen_in old.seen → Stays old new
+stays_by old new keeps cells acts opens seen = record {
+  keeps = keeps;
+  same = record {
+    due = λ c n. ap (λ s. due s n) (cells c);
+    wrote = λ c. ap wrote (cells c);
+    fresh = λ c. ap fresh (cells c);
+    read = λ a u i. acts.read a u;
+    entry = λ a. acts.entry a;
+    passing = λ a n. acts.passing a n;
+    stack = opens;
+  };
+  seen = seen;
+}
+
 -- ---- what a recorder stands for
 
 -- after the event it stands for the list with the event
