@@ -7,7 +7,7 @@ ghost use Rattle.cc_rows.specs.Gains.{Gains, Or};
 ghost use Rattle.cc_flows.specs.Flows.{Reaches, IsOne, IsAny, IsRead, IsGathered, AreReached, found_of, found_cmp};
 
 use crate::mask::{Touch, block_at, clears, masks, points};
-use crate::sweep::sweep;
+use crate::sweeping::sweep;
 use cc_base::{List, Memory};
 use cc_blocks::Block;
 use cc_rows::{Stop, add_row};

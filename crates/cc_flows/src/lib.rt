@@ -9,9 +9,9 @@
 mod flow;
 mod mask;
 mod order;
-mod sweep;
+mod sweeping;
 
 pub use flow::{Found, Ways, flows};
 pub use mask::Touch;
 pub use order::order_of;
-pub use sweep::{empty_sets, pass_row, sweep};
+pub use sweeping::{empty_sets, pass_row, sweep};

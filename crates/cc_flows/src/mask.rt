@@ -4,7 +4,7 @@ ghost use Rattle.cc_blocks.specs.Bits.{bit};
 ghost use Rattle.cc_flows.specs.Sweeping.{bit_at_point};
 ghost use Rattle.cc_flows.specs.Masks.{IsOf, IsWiped, row_of, points_of};
 
-use crate::sweep::empty_sets;
+use crate::sweeping::empty_sets;
 use cc_base::{List, Memory};
 use cc_blocks::Block;
 use std::alloc::Global;

@@ -17,7 +17,7 @@ use Rattle.cc_listed.specs.declared.table.Access.{Access}
 use Rattle.cc_listed.specs.declared.table.Tables.{Tables}
 use Rattle.cc_listed.specs.Stretches.{Stretch, First, On, IsAt}
 use Rattle.cc_lanes.specs.declared.lane.Lanes.{Lanes}
-use Rattle.cc_lanes.specs.declared.spread.Whose.TheVariants as whose
+use Rattle.cc_lanes.specs.declared.laid.Whose.TheVariants as whose
 use Rattle.cc_lanes.specs.Rows.{Pair, Holds}
 use Rattle.cc_lanes.specs.Lanes.{AreLanes}
 use Rattle.cc_lanes.specs.Spreading.{object_in, touch_of, IsSpread}

@@ -10,8 +10,8 @@ use Rattle.cc_listed.specs.declared.table.Access.{Access}
 use Rattle.cc_listed.specs.declared.table.Tables.{Tables}
 use Rattle.cc_listed.specs.Tabled.{component_of}
 use Rattle.cc_lanes.specs.declared.lane.Lanes.{Lanes}
-use Rattle.cc_lanes.specs.declared.spread.Whose.{Whose}
-use Rattle.cc_lanes.specs.declared.spread.Whose.TheVariants as whose
+use Rattle.cc_lanes.specs.declared.laid.Whose.{Whose}
+use Rattle.cc_lanes.specs.declared.laid.Whose.TheVariants as whose
 use Rattle.cc_lanes.specs.Rows.{Pair}
 use Rattle.cc_lanes.specs.Lanes.{AreLanes}
 use Rattle.cc_lanes.specs.Spreading.{goes, goes_in, goes_into, touch_of, IsInto, IsSpread}

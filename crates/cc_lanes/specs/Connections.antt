@@ -9,7 +9,7 @@ use Rattle.cc_listed.specs.declared.table.Slot.{Slot}
 use Rattle.cc_listed.specs.declared.table.Tables.{Tables}
 use Rattle.cc_listed.specs.Stretches.{Stretch, IsAt}
 use Rattle.cc_lanes.specs.declared.lane.Lanes.{Lanes}
-use Rattle.cc_lanes.specs.declared.spread.Whose.TheVariants as whose
+use Rattle.cc_lanes.specs.declared.laid.Whose.TheVariants as whose
 use Rattle.cc_lanes.specs.Rows.{Pair}
 use Rattle.cc_lanes.specs.Spreading.{IsSpread}
 

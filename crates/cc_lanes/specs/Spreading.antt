@@ -8,8 +8,8 @@ use Rattle.cc_listed.specs.declared.table.Slot.{Slot}
 use Rattle.cc_listed.specs.declared.table.Tables.{Tables}
 use Rattle.cc_listed.specs.Tabled.{component_of}
 use Rattle.cc_lanes.specs.declared.lane.Lanes.{Lanes}
-use Rattle.cc_lanes.specs.declared.spread.Whose.{Whose}
-use Rattle.cc_lanes.specs.declared.spread.Whose.TheVariants as whose
+use Rattle.cc_lanes.specs.declared.laid.Whose.{Whose}
+use Rattle.cc_lanes.specs.declared.laid.Whose.TheVariants as whose
 use Rattle.cc_lanes.specs.Rows.{Pair}
 
 -- an access of one component goes into the lane of another one

@@ -6,16 +6,16 @@
 //! [`connect`] finds which starts reach which targets of the same slot where no component matters.
 #![tactic(auto)]
 
-mod connect;
-mod join;
+mod connected;
+mod joined;
+mod laid;
 mod lane;
 mod pick;
-mod spread;
 mod table;
 
-pub use connect::{connect, point_pairs};
-pub use join::{Roads, join};
+pub use connected::{connect, point_pairs};
+pub use joined::{Roads, join};
+pub use laid::{Whose, spread};
 pub use lane::{Lanes, lanes_of, pairs_read};
 pub use pick::{crossing, staying};
-pub use spread::{Whose, spread};
 pub use table::table_of;

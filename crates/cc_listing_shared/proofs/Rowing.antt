@@ -17,8 +17,8 @@ use Rattle.cc_listed.specs.declared.table.Tables.{Tables}
 use Rattle.cc_listed.specs.Tabled.{component_of}
 use Rattle.cc_listed.specs.Stretches.{Stretch, First, On}
 use Rattle.cc_lanes.specs.declared.lane.Lanes.{Lanes}
-use Rattle.cc_lanes.specs.declared.spread.Whose.{Whose}
-use Rattle.cc_lanes.specs.declared.spread.Whose.TheVariants as whose
+use Rattle.cc_lanes.specs.declared.laid.Whose.{Whose}
+use Rattle.cc_lanes.specs.declared.laid.Whose.TheVariants as whose
 use Rattle.cc_lanes.specs.Rows.{Pair}
 use Rattle.cc_lanes.specs.Lanes.{lane_of, AreLanes}
 use Rattle.cc_lanes.specs.Spreading.{goes, object_in, touch_of, IsSpread}

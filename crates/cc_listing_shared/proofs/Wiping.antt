@@ -11,8 +11,8 @@ use Rattle.cc_rows.specs.Gains.{Each}
 use Rattle.cc_listed.specs.declared.table.Access.{Access}
 use Rattle.cc_listed.specs.declared.table.Tables.{Tables}
 use Rattle.cc_lanes.specs.declared.lane.Lanes.{Lanes}
-use Rattle.cc_lanes.specs.declared.spread.Whose.{Whose}
-use Rattle.cc_lanes.specs.declared.spread.Whose.TheVariants as whose
+use Rattle.cc_lanes.specs.declared.laid.Whose.{Whose}
+use Rattle.cc_lanes.specs.declared.laid.Whose.TheVariants as whose
 use Rattle.cc_lanes.specs.Rows.{Pair, Holds}
 use Rattle.cc_lanes.specs.Spreading.{IsSpread}
 use Rattle.cc_lanes.proofs.Listing.{filter_only, filter_new, map_only, map_new}

@@ -6,8 +6,8 @@ use Rattle.cc_listed.specs.declared.table.Access.{Access}
 use Rattle.cc_listed.specs.declared.table.Tables.{Tables}
 use Rattle.cc_listed.specs.Tabled.{is_by_name, is_named}
 use Rattle.cc_lanes.specs.declared.lane.Lanes.{Lanes}
-use Rattle.cc_lanes.specs.declared.spread.Whose.{Whose}
-use Rattle.cc_lanes.specs.declared.spread.Whose.TheVariants as whose
+use Rattle.cc_lanes.specs.declared.laid.Whose.{Whose}
+use Rattle.cc_lanes.specs.declared.laid.Whose.TheVariants as whose
 use Rattle.cc_lanes.specs.Connections.{pair_of}
 use Rattle.cc_lanes.specs.Spreading.{IsSpread}
 
