@@ -73,7 +73,7 @@ module _ (next : Next) (wipes : List (List ℕ)) (definitions : List Touch) (mas
         definition = w.3;
         read = r;
         defines = contains_at definitions w.0 w.3 w.4;
-        reads = g.1;
+        is_read = g.1;
         same_slot = sym x.2 ∙ ap (λ (z : Touch). z.slot) (sym same_x);
         stretch = to_stretch w.0 w.3 w.4 w.3.point r.point (subst (λ (z : Touch). MaskStretch next wipes masks w.0 z.point r.point) (sym same_y) y.2);
         is = w.5;
@@ -85,7 +85,7 @@ module _ (next : Next) (wipes : List (List ℕ)) (definitions : List Touch) (mas
       let i = h.defines.0 in
       let at = place definitions d h.defines in (
         h.read,
-        h.reads,
+        h.is_read,
         (
           i,
           (reached h.read.point i).1 (d, at, to_steps i d at d.point h.read.point h.stretch),
@@ -109,7 +109,7 @@ module _ (next : Next) (wipes : List (List ℕ)) (reads : List Touch) where
     definition = h.definition;
     read = h.read;
     defines = more h.definition h.defines;
-    reads = h.reads;
+    is_read = h.is_read;
     same_slot = h.same_slot;
     stretch = h.stretch;
     is = h.is;
@@ -117,8 +117,8 @@ module _ (next : Next) (wipes : List (List ℕ)) (reads : List Touch) where
 
   split : (ds es : List Touch) (f : Found) → Reaches next wipes reads (ds ++ es) f → Reaches next wipes reads ds f ⊎ Reaches next wipes reads es f
   split ds es f h = ⊎_elim
-      (λ old. inl (record { definition = h.definition; read = h.read; defines = old; reads = h.reads; same_slot = h.same_slot; stretch = h.stretch; is = h.is }))
-      (λ new. inr (record { definition = h.definition; read = h.read; defines = new; reads = h.reads; same_slot = h.same_slot; stretch = h.stretch; is = h.is }))
+      (λ old. inl (record { definition = h.definition; read = h.read; defines = old; is_read = h.is_read; same_slot = h.same_slot; stretch = h.stretch; is = h.is }))
+      (λ new. inr (record { definition = h.definition; read = h.read; defines = new; is_read = h.is_read; same_slot = h.same_slot; stretch = h.stretch; is = h.is }))
       (Contains-append_cases ds es h.definition h.defines)
 
   pub batch_on : (definitions : List Touch) (first last : ℕ) (a b c : List Found) → first ≤ last → Gains a b (Reaches next wipes reads (take first definitions)) → Gains b c (Reaches next wipes reads (slice_range definitions first last)) → Gains a c (Reaches next wipes reads (take last definitions))

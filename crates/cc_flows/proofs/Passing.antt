@@ -154,7 +154,7 @@ visits_on next clears starts k point row reach reach' dirty dirty' source at is_
   passed = λ a b i edge is clear. ⊎_elim
       (λ old. elim (cases_eq a point) [
         | inl same ↦ inl (p.got b i (has_row next point b row at (subst (λ x. HasEdge next x b) same edge))
-            (let o = ap (λ x. bit_at_point reach x i) (sym same) ∙ old in let z = ap (λ x. bit_at_point clears x i) (sym same) ∙ clear in omega (arith, is_source i)))
+            (let o : bit_at_point reach point i ≡ 1 = ap (λ x. bit_at_point reach x i) (sym same) ∙ old in let z : bit_at_point clears point i ≡ 0 = ap (λ x. bit_at_point clears x i) (sym same) ∙ clear in omega (arith, is_source i, o, z)))
         | inr ne ↦ ⊎_elim
             (λ x. inl (p.kept b i x))
             (λ c. inr (p.dirty_kept a (dirty_other dirty point a ne c)))

@@ -33,7 +33,7 @@ pub record Reaches (next : Next) (wipes : List (List ℕ)) (reads : List Touch) 
   pub definition : Touch
   pub read : Touch
   pub defines : Contains definitions definition
-  pub reads : Contains reads read
+  pub is_read : Contains reads read
   pub same_slot : read.slot ≡ definition.slot
   pub stretch : ClearStretch next wipes definition.slot definition.point read.point
   pub is : found_of definition read.node ≡ found

@@ -152,7 +152,7 @@ fn reach_of(
     requires count { length definitions.now ≤ 512 }
     requires definitions { (d : Touch) → Contains definitions.now d
         → d.point < length ways.next.now }
-    ensures { IfOk result (λ reach. AreReached ways.next.now ways.wipes.now masks.now definitions.now reach.items) }
+    ensures { IfOk result (λ reach. AreReached ways.entry.next.now ways.entry.wipes.now masks.now definitions.now reach.items) }
 {
     let clears = clears(alloc, ways.wipes, masks)?;
     let points = points(alloc, definitions)?;
@@ -181,9 +181,9 @@ fn batch(
     requires definitions { (d : Touch) → Contains definitions.now d
         → (d.slot < slots) × (d.point < length ways.next.now) }
     ensures found { OnOk result (Gains found.old.items found.new.items
-        (Reaches ways.next.now ways.wipes.now reads.now definitions.now)) }
+        (Reaches ways.entry.next.now ways.entry.wipes.now reads.now definitions.now)) }
     ensures many { result ≡ Err TooMany → HasMore found_cmp (Or found.old.items
-        (Reaches ways.next.now ways.wipes.now reads.now definitions.now)) most }
+        (Reaches ways.entry.next.now ways.entry.wipes.now reads.now definitions.now)) most }
 {
     let masks = masks(alloc, slots, definitions)?;
     let reach = reach_of(alloc, ways, masks.as_slice(), definitions)?;
@@ -227,9 +227,9 @@ pub fn flows(
     requires definitions { (d : Touch) → Contains definitions.now d
         → (d.slot < slots) × (d.point < length ways.next.now) }
     ensures found { OnOk result (Gains found.old.items found.new.items
-        (Reaches ways.next.now ways.wipes.now reads.now definitions.now)) }
+        (Reaches ways.entry.next.now ways.entry.wipes.now reads.now definitions.now)) }
     ensures many { result ≡ Err TooMany → HasMore found_cmp (Or found.old.items
-        (Reaches ways.next.now ways.wipes.now reads.now definitions.now)) most }
+        (Reaches ways.entry.next.now ways.entry.wipes.now reads.now definitions.now)) most }
 {
     let mut first = 0;
     while first < definitions.len() {

@@ -94,7 +94,7 @@ module _ (next : Next) (T : Tables) (lanes : Lanes) (cutters starts targets : Li
   pub to_connected : (f : Found) → Reaches next wipes ends begins f → IsConnected next T cutters starts targets f
   to_connected f h =
       let s = (are_begins h.definition).0 h.defines in
-      let t = (are_ends h.read).0 h.reads in
+      let t = (are_ends h.read).0 h.is_read in
       let d = in_lane T (map plain_lane targets) lanes are whose.All s.0 h.definition s.2 in
       let u = in_lane T (map plain_lane targets) lanes are whose.All t.0 h.read t.2 in
       let k = d.number in
@@ -132,7 +132,7 @@ module _ (next : Next) (T : Tables) (lanes : Lanes) (cutters starts targets : Li
         definition = touch_of T r.start k;
         read = touch_of T r.target k;
         defines = (are_begins (touch_of T r.start k)).1 (r.start, r.begins, start);
-        reads = (are_ends (touch_of T r.target k)).1 (r.target, r.ends, target);
+        is_read = (are_ends (touch_of T r.target k)).1 (r.target, r.ends, target);
         same_slot = refl;
         stretch = from_path k lane at r.start.point r.target.point
             (subst (λ n. Stretch next (IsAt (Contains cutters) n) r.start.point r.target.point) (sym r.same_slot) r.path);

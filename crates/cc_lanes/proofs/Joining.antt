@@ -113,3 +113,6 @@ module _ (next within : Next) (T : Tables) (inner outer starts targets : List Ac
         (λ x. (h f).1 (inr (subst (λ (xs : List Access). IsConnected next T outer xs targets f) (sym (e_free' ∙ e_free)) x)))
         (by_kind f j j.slot.kind refl j.path),
   )
+
+pub picked_within : (test : Access → Bool) (starts picked : List Access) (points : ℕ) → picked ≡ filter test starts → ((a : Access) → Contains starts a → a.point < points) → (a : Access) → Contains picked a → a.point < points
+picked_within test starts picked points e within a is = within a (filter_only test starts a (subst (λ (xs : List Access). Contains xs a) e is)).0

@@ -1,5 +1,5 @@
 -- What is in rows of pairs.
-use Rattle.std.proofs.Common.{ℕ, zero, suc, ◌≡◌, ◌≢◌, ◌+◌, ◌<◌, ◌≤◌, ◌⊎◌, inl, inr, ⊎_elim, List, [], ◌∷◌, ◌++◌, Some, length, take, refl, sym, ap, ◌∙◌, subst, arith}
+use Rattle.std.proofs.Common.{ℕ, zero, suc, ◌≡◌, ◌≢◌, ◌+◌, ◌<◌, ◌≤◌, ◌⊎◌, inl, inr, ⊎_elim, List, [], ◌∷◌, ◌++◌, Some, length, replicate, take, refl, sym, ap, ◌∙◌, subst, arith}
 use Rattle.std.specs.Prelude.{Contains, ◌↔◌, slice_get}
 use Rattle.std.proofs.lemmas.Option.{slice_get_within}
 use Rattle.std.proofs.lemmas.Bool.{cases_eq, cases_lt}
@@ -129,3 +129,8 @@ slot_rows slots pairs numbers rows long holds numbered s k = (
       (omega (arith, w.0, long), (x.0, ap (slice_get pairs) (sym w.1.3) ∙ x.1, x.2 ∙ w.1.2))),
   λ w. (holds s k).1 (omega (arith, w.0, long), ((s, k), (numbered (s, k)).1 (w.1.0, w.1.1, w.1.2), refl, refl)),
 )
+
+pub empty_row : (n r x : ℕ) → Contains (row_of (replicate n []) r) x → ⊥
+empty_row zero r x is = none x is
+empty_row (suc n) zero x is = none x is
+empty_row (suc n) (suc r) x is = empty_row n r x is

@@ -71,7 +71,7 @@ pub fn join(
     requires points { length roads.within.now ≡ length roads.next.now }
     requires starts { (a : Access) → Contains starts.now a → a.point < length roads.next.now }
     ensures { IfOk result (λ out. (f : Found) → Contains out.items f
-        ↔ IsJoined roads.next.now roads.within.now tables.now inner.now outer.now starts.now targets.now f) }
+        ↔ IsJoined roads.entry.next.now roads.entry.within.now tables.now inner.now outer.now starts.now targets.now f) }
 {
     let held = staying(alloc, tables, starts)?;
     let free = crossing(alloc, tables, starts)?;

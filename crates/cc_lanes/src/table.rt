@@ -1,6 +1,5 @@
 // Rows of pairs.
-ghost use Rattle.std.specs.Prelude.{◌≡◌, ℕ, Contains, IfOk, OnOk, length};
-ghost use Rattle.cc_flows.specs.Masks.{row_of};
+ghost use Rattle.std.specs.Prelude.{◌≡◌, [], IfOk, OnOk, length, replicate};
 ghost use Rattle.cc_lanes.specs.Rows as spec;
 ghost use Rattle.cc_lanes.specs.Rows.{Holds};
 
@@ -9,8 +8,7 @@ use std::alloc::Global;
 
 // So many empty rows.
 fn empty_rows(alloc: Global, count: usize) -> Result<Vec<List<u32>>, Memory>
-    ensures long { IfOk result (λ rows. length rows.items ≡ count) }
-    ensures none { IfOk result (λ rows. (r x : ℕ) → Contains (row_of rows.items r) x → ⊥) }
+    ensures { IfOk result (λ rows. rows.items ≡ replicate count []) }
 {
     let mut rows = Vec::new(alloc);
     for _row in 0..count {

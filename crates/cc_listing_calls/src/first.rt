@@ -15,7 +15,7 @@ use std::alloc::{AllocError, Global};
 // All accesses.
 fn touching(alloc: Global, uses: Uses) -> Result<Vec<Access>, AllocError>
     ensures { IfOk result (λ out. (a : Access) → Contains out.items a ↔ Touches
-        (accesses uses.writes.now uses.given.now uses.passed.now uses.reads.now) a) }
+        (accesses uses.entry.writes.now uses.entry.given.now uses.entry.passed.now uses.entry.reads.now) a) }
 {
     let mut out = Vec::from_slice(alloc, uses.reads)?;
     out.extend_from_slice(uses.writes)?;
@@ -39,8 +39,8 @@ pub fn first_readers(
     requires formals { (formal : Formal) → Contains formals.now formal
         → formal.entry < length roads.next.now }
     ensures { IfOk result (λ out. (f : Found) → Contains out.items f
-        ↔ spec.IsFirstReader (steps roads.next.now roads.within.now root) tables.now
-        (accesses uses.writes.now uses.given.now uses.passed.now uses.reads.now)
+        ↔ spec.IsFirstReader (steps roads.entry.next.now roads.entry.within.now root) tables.now
+        (accesses uses.entry.writes.now uses.entry.given.now uses.entry.passed.now uses.entry.reads.now)
         formals.now f) }
 {
     let cutters = touching(alloc, uses)?;

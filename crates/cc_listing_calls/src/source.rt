@@ -17,7 +17,7 @@ use std::alloc::{AllocError, Global};
 // All definitions.
 fn definitions(alloc: Global, uses: Uses) -> Result<Vec<Access>, AllocError>
     ensures { IfOk result (λ out. (a : Access) → Contains out.items a ↔ DefinesAny
-        (accesses uses.writes.now uses.given.now uses.passed.now uses.reads.now) a) }
+        (accesses uses.entry.writes.now uses.entry.given.now uses.entry.passed.now uses.entry.reads.now) a) }
 {
     let mut out = Vec::from_slice(alloc, uses.writes)?;
     out.extend_from_slice(uses.given)?;
@@ -59,8 +59,8 @@ pub fn sources(
     requires root { root < length roads.next.now }
     requires reach { living.IsReach roads.next.now root reach.now }
     ensures { IfOk result (λ out. (f : Found) → Contains out.items f
-        ↔ spec.IsSource (steps roads.next.now roads.within.now root) tables.now
-        (accesses uses.writes.now uses.given.now uses.passed.now uses.reads.now)
+        ↔ spec.IsSource (steps roads.entry.next.now roads.entry.within.now root) tables.now
+        (accesses uses.entry.writes.now uses.entry.given.now uses.entry.passed.now uses.entry.reads.now)
         named.now f) }
 {
     let all = definitions(alloc, uses)?;

@@ -1,6 +1,13 @@
 -- The rows are the listed ones.
-use Rattle.std.proofs.Common.{ℕ, ◌≡◌, ◌<◌, ◌⊎◌, inl, inr, ⊎_elim, Bool, true, false, ◌&&◌, List, ◌++◌, Some, length, refl, sym, ap, ◌∙◌, subst}
-use Rattle.std.specs.Prelude.{Contains, ◌↔◌, filter, slice_get}
+use Rattle.std.proofs.Common.{ℕ, ◌≡◌, ◌<◌, ◌⊎◌, inl, inr, ⊎_elim, Bool, true, false, ◌&&◌, List, [], ◌++◌, Some, length, refl, sym, ap, ◌∙◌, subst}
+use Rattle.std.specs.Prelude.{Contains, ◌↔◌, filter, slice_get, Result, Ok, Err, IfOk}
+use Rattle.std.specs.declared.vec.Vec.{Vec}
+use Rattle.std.specs.declared.alloc.Global.{Global}
+use Rattle.cc_rows.specs.Gains.{Gains, Or}
+use Rattle.cc_rows.specs.Limits.{HasMore}
+use Rattle.cc_rows.specs.declared.stop.Stop.{Stop}
+use Rattle.cc_rows.proofs.Gained.{gains_all}
+use Rattle.cc_flows.specs.Flows.{found_cmp}
 use Rattle.std.proofs.lemmas.List.Elements.{Contains-append_left, Contains-append_right, Contains-append_cases}
 use Rattle.cc_blocks.specs.declared.block.Block.{Block}
 use Rattle.cc_flows.specs.Sweeping.{Next, StaysWithin}
@@ -13,11 +20,11 @@ use Rattle.cc_listed.specs.declared.table.Tables.{Tables}
 use Rattle.cc_listed.specs.Tabled.{component_of, is_by_name, is_named, is_across, named_in, named_kind, across_in, across_kind}
 use Rattle.cc_listed.specs.Stretches.{Steps, Accesses, accesses, steps, Stretch, First, On, Never, IsAt, UsesByName, IsReachable, IsClearFor}
 use Rattle.cc_listed.specs.Listed.{IsShared, StayInside}
-use Rattle.cc_lanes.proofs.Listing.{filter_only, filter_new}
+use Rattle.cc_lanes.proofs.Listing.{none, filter_only, filter_new}
 use Rattle.cc_listing_shared.specs.Living.{is_live, is_reached, IsReach}
 use Rattle.cc_lanes.specs.Picking.{crosses}
 use Rattle.cc_listing_shared.specs.Cutting.{cuts}
-use Rattle.cc_listing_shared.specs.SharedRows.{IsListed, IsCut, IsRow}
+use Rattle.cc_listing_shared.specs.SharedRows.{IsListed, AreListed, HasMoreListed, IsCut, IsRow}
 use Rattle.cc_listing_shared.proofs.Truth.{and_true, true_and}
 use Rattle.cc_listing_shared.proofs.Reaching.{reachable_within}
 
@@ -122,3 +129,46 @@ module _ (next within : Next) (root : ℕ) (T : Tables) (reach : List Block) (wr
           clear = from_clear s.definition s.slot s.at c s.slot.kind s.definition.point s.read.point refl other s.clear;
           differ = s.differ;
         }
+
+-- what was found is listed, and nothing else
+module _ (next : Next) (root : ℕ) (T : Tables) (reach : List Block) (writes given passed reads among among' live live' : List Access)
+    (is_reach : IsReach next root reach)
+    (live_is : (a : Access) → Contains live a ↔ ((Contains writes a ⊎ Contains given a) × (is_live T root reach a ≡ true)))
+    (among_is : among ≡ filter (crosses T) reads) (e_live : live' ≡ live) (e_among : among' ≡ among) where
+  to_listed : (within : Next) (f : Found) → IsRow next T writes reads live' among' f → IsListed next within root T writes given passed reads f
+  to_listed within f r = to_shared next within root T reach writes given passed reads among live is_reach live_is among_is f
+      (subst (λ (xs : List Access). IsRow next T writes reads live xs f) e_among (subst (λ (xs : List Access). IsRow next T writes reads xs among' f) e_live r))
+
+  from_listed : (within : Next) → StayInside T (accesses writes given passed reads) → (f : Found) → IsListed next within root T writes given passed reads f → IsRow next T writes reads live' among' f
+  from_listed within stay f s = subst (λ (xs : List Access). IsRow next T writes reads xs among' f) (sym e_live)
+      (subst (λ (xs : List Access). IsRow next T writes reads live xs f) (sym e_among) (from_shared next within root T reach writes given passed reads among live is_reach live_is among_is stay f s))
+
+  pub listed_all : (before rows : List Found) → before ≡ [] → Gains before rows (IsRow next T writes reads live' among') → AreListed next root T writes given passed reads rows
+  listed_all before rows e g within stay f =
+      let exact = gains_all before rows (IsRow next T writes reads live' among') e g f in
+      (λ is. to_listed within f (exact.0 is), λ s. exact.1 (from_listed within stay f s))
+
+  pub more_listed : (before : List Found) (most : ℕ) → before ≡ [] → HasMore found_cmp (Or before (IsRow next T writes reads live' among')) most → HasMoreListed next root T writes given passed reads most
+  more_listed before most e h within stay = (
+    h.0,
+    h.1,
+    h.2,
+    λ f is. ⊎_elim
+        (λ old. absurd (none f (subst (λ (xs : List Found). Contains xs f) e old)))
+        (λ r. to_listed within f r)
+        (h.3 f is),
+  )
+
+pub more_of : (next : Next) (root : ℕ) (T : Tables) (writes given passed reads : List Access) (rows : List Found) (most : ℕ) → AreListed next root T writes given passed reads rows → HasMore found_cmp (Contains rows) most → HasMoreListed next root T writes given passed reads most
+more_of next root T writes given passed reads rows most listed h within stay = (h.0, h.1, h.2, λ f is. (listed within stay f).0 (h.3 f is))
+
+-- the same rows in another order
+pub if_listed : (next : Next) (root : ℕ) (T : Tables) (writes given passed reads : List Access) (rows : List Found) (r : Result (Vec Found Global) Stop) → IfOk r (λ out. (x : Found) → Contains out.items x ↔ Contains rows x) → AreListed next root T writes given passed reads rows →
+    IfOk r (λ out. AreListed next root T writes given passed reads out.items)
+if_listed next root T writes given passed reads rows (Ok out) same listed = λ within stay f. (λ is. (listed within stay f).0 ((same f).0 is), λ x. (same f).1 ((listed within stay f).1 x))
+if_listed next root T writes given passed reads rows (Err e) same listed = same
+
+pub picked_within : (next : Next) (root : ℕ) (T : Tables) (reach : List Block) (writes given live live' : List Access) → StaysWithin next → root < length next → IsReach next root reach → live' ≡ live →
+    ((a : Access) → Contains live a ↔ ((Contains writes a ⊎ Contains given a) × (is_live T root reach a ≡ true))) → (a : Access) → Contains live' a → a.point < length next
+picked_within next root T reach writes given live live' stays lt is_reach e live_is a is =
+    live_within next root T reach a stays lt is_reach ((live_is a).0 (subst (λ (xs : List Access). Contains xs a) e is)).1

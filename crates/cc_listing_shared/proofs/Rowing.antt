@@ -80,7 +80,7 @@ module _ (next : Next) (T : Tables) (lanes : Lanes) (writes reads among live : L
   pub to_row : (f : Found) → Reaches next wipes targets starts f → IsRow next T writes reads live among f
   to_row f h =
       let s = (are_starts h.definition).0 h.defines in
-      let t = (are_targets h.read).0 h.reads in
+      let t = (are_targets h.read).0 h.is_read in
       let d = in_lane T (map (lane_of T) among) lanes are whose.Others s.0 h.definition s.2 in
       let u = in_lane T (map (lane_of T) among) lanes are whose.Own t.0 h.read t.2 in
       let k = d.number in
@@ -125,7 +125,7 @@ module _ (next : Next) (T : Tables) (lanes : Lanes) (writes reads among live : L
         definition = touch_of T r.definition k;
         read = touch_of T r.read k;
         defines = (are_starts (touch_of T r.definition k)).1 (r.definition, r.defines, start);
-        reads = (are_targets (touch_of T r.read k)).1 (r.read, r.is_read, target);
+        is_read = (are_targets (touch_of T r.read k)).1 (r.read, r.is_read, target);
         same_slot = refl;
         stretch = from_stretch k lane at r.definition.point r.read.point
             (subst (λ c. Stretch next (IsCut T writes reads c r.read.slot) r.definition.point r.read.point) (sym of_reader)

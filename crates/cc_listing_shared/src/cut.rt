@@ -39,8 +39,8 @@ fn cut_pairs(
     ensures { IfOk result (λ out. (p : ℕ × ℕ) → Contains out.items p
         ↔ spec.IsCutBy tables.now lanes.now whose accesses.now p) }
 {
-    let accesses = cutting(alloc, tables, accesses)?;
-    let touches = spread(alloc, tables, lanes, whose, accesses.as_slice())?;
+    let kept = cutting(alloc, tables, accesses)?;
+    let touches = spread(alloc, tables, lanes, whose, kept.as_slice())?;
     Ok(point_pairs(alloc, touches.as_slice())?)
 }
 

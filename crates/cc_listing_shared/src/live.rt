@@ -24,7 +24,7 @@ pub struct Routes<'a> {
 pub fn reach_of(alloc: Global, routes: Routes) -> Result<Vec<Block>, Memory>
     requires next { StaysWithin routes.next.now }
     requires root { routes.root < length routes.next.now }
-    ensures { IfOk result (λ reach. spec.IsReach routes.next.now routes.root reach.items) }
+    ensures { IfOk result (λ reach. spec.IsReach routes.entry.next.now routes.entry.root reach.items) }
 {
     let clears = empty_sets(alloc, routes.next.len())?;
     let starts = [routes.root];

@@ -29,7 +29,7 @@ fn live_definitions(
     uses: Uses,
 ) -> Result<Vec<Access>, Memory>
     ensures { IfOk result (λ out. (a : Access) → Contains out.items a
-        ↔ ((Contains uses.writes.now a ⊎ Contains uses.given.now a)
+        ↔ ((Contains uses.entry.writes.now a ⊎ Contains uses.entry.given.now a)
         × (living.is_live tables.now root reach.now a ≡ true))) }
 {
     let mut out = live_among(alloc, tables, root, reach, uses.writes)?;
@@ -54,9 +54,9 @@ fn find_rows(
     requires live { (a : Access) → Contains live.now a → a.point < length routes.next.now }
     requires lanes { AreLanes tables.now (map (lane_of tables.now) reads.now) lanes.now }
     ensures found { OnOk result (Gains found.old.items found.new.items
-        (spec.IsRow routes.next.now tables.now uses.writes.now uses.reads.now live.now reads.now)) }
+        (spec.IsRow routes.entry.next.now tables.now uses.entry.writes.now uses.entry.reads.now live.now reads.now)) }
     ensures many { result ≡ Err TooMany → HasMore found_cmp (Or found.old.items
-        (spec.IsRow routes.next.now tables.now uses.writes.now uses.reads.now live.now reads.now)) most }
+        (spec.IsRow routes.entry.next.now tables.now uses.entry.writes.now uses.entry.reads.now live.now reads.now)) most }
 {
     let points = routes.next.len();
     let wipes = wipes_of(alloc, tables, lanes, points, uses.writes, uses.reads)?;
@@ -90,10 +90,10 @@ fn found_rows(
     requires next { StaysWithin routes.next.now }
     requires root { routes.root < length routes.next.now }
     requires reach { living.IsReach routes.next.now routes.root reach.now }
-    ensures listed { IfOk result (λ rows. spec.AreListed routes.next.now routes.root tables.now
-        uses.writes.now uses.given.now uses.passed.now uses.reads.now rows.items) }
-    ensures many { result ≡ Err TooMany → spec.HasMoreListed routes.next.now routes.root tables.now
-        uses.writes.now uses.given.now uses.passed.now uses.reads.now most }
+    ensures listed { IfOk result (λ rows. spec.AreListed routes.entry.next.now routes.entry.root tables.now
+        uses.entry.writes.now uses.entry.given.now uses.entry.passed.now uses.entry.reads.now rows.items) }
+    ensures many { result ≡ Err TooMany → spec.HasMoreListed routes.entry.next.now routes.entry.root tables.now
+        uses.entry.writes.now uses.entry.given.now uses.entry.passed.now uses.entry.reads.now most }
 {
     let live = live_definitions(alloc, tables, routes.root, reach, uses)?;
     let reads = crossing(alloc, tables, uses.reads)?;
@@ -129,12 +129,12 @@ pub fn shared_rows(
     requires next { StaysWithin routes.next.now }
     requires root { routes.root < length routes.next.now }
     requires reach { living.IsReach routes.next.now routes.root reach.now }
-    ensures listed { IfOk result (λ rows. spec.AreListed routes.next.now routes.root tables.now
-        uses.writes.now uses.given.now uses.passed.now uses.reads.now rows.items) }
+    ensures listed { IfOk result (λ rows. spec.AreListed routes.entry.next.now routes.entry.root tables.now
+        uses.entry.writes.now uses.entry.given.now uses.entry.passed.now uses.entry.reads.now rows.items) }
     ensures ascending { IfOk result (λ rows. IsStrictlySortedBy found_cmp rows.items) }
     ensures few { IfOk result (λ rows. length rows.items ≤ most) }
-    ensures many { result ≡ Err TooMany → spec.HasMoreListed routes.next.now routes.root tables.now
-        uses.writes.now uses.given.now uses.passed.now uses.reads.now most }
+    ensures many { result ≡ Err TooMany → spec.HasMoreListed routes.entry.next.now routes.entry.root tables.now
+        uses.entry.writes.now uses.entry.given.now uses.entry.passed.now uses.entry.reads.now most }
 {
     let found = found_rows(alloc, routes, tables, reach, uses, most)?;
     limited(found, most)

@@ -18,8 +18,8 @@ returns-clause-found c =
     let reach = c.in_ok-reach.reach.items in
     let reached : AreReached next wipes masks ds reach = subst (λ ms. AreReached next wipes ms ds reach) c.as_slice.ensures.value c.in_ok-reach.ensures in
     gains_as_ok c.gather_all.result c.args.found.now.items c.gather_all.new.found.items (IsGathered ds reads c.as_slice-2.result.now c.as_slice-3.result.now) (Reaches next wipes reads ds)
-    (λ f. rw (c.as_slice-2.ensures.value, c.as_slice-3.ensures.value) (to_found next wipes ds masks reach c.in_ok-masks.ensures reached reads f))
-    (λ f. rw (c.as_slice-2.ensures.value, c.as_slice-3.ensures.value) (from_found next wipes ds masks reach c.in_ok-masks.ensures reached reads f))
+    (λ f. rw (c.as_slice-2.ensures.value, c.as_slice-3.ensures.value) (to_found next wipes ds masks reach c.in_ok-masks.ensures.exact reached reads f))
+    (λ f. rw (c.as_slice-2.ensures.value, c.as_slice-3.ensures.value) (from_found next wipes ds masks reach c.in_ok-masks.ensures.exact reached reads f))
     c.gather_all.ensures.found
 
 pub returns-clause-many : goal.returns-clause-many
@@ -33,5 +33,5 @@ returns-clause-many c = λ is.
     let reached : AreReached next wipes masks ds reach = subst (λ ms. AreReached next wipes ms ds reach) c.as_slice.ensures.value c.in_ok-reach.ensures in
     more_as found_cmp c.args.most (Or c.args.found.now.items (IsGathered ds reads c.as_slice-2.result.now c.as_slice-3.result.now)) (Or c.args.found.now.items (Reaches next wipes reads ds))
     (or_as found_cmp c.args.most c.args.found.now.items (IsGathered ds reads c.as_slice-2.result.now c.as_slice-3.result.now) (Reaches next wipes reads ds)
-    (λ f. rw (c.as_slice-2.ensures.value, c.as_slice-3.ensures.value) (to_found next wipes ds masks reach c.in_ok-masks.ensures reached reads f)))
+    (λ f. rw (c.as_slice-2.ensures.value, c.as_slice-3.ensures.value) (to_found next wipes ds masks reach c.in_ok-masks.ensures.exact reached reads f)))
     (c.gather_all.ensures.many is)

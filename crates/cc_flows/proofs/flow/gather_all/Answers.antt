@@ -4,6 +4,7 @@ use Rattle.std.proofs.lemmas.List.{take_all}
 use Rattle.std.proofs.lemmas.Result.{err_from_is_err_and}
 use Rattle.cc_rows.specs.Gains.{Gains, Each}
 use Rattle.cc_rows.proofs.Gained.{each_none, each_on, each_in, each_one, more_later}
+use Rattle.cc_flows.specs.declared.mask.Touch.{Touch}
 use Rattle.cc_flows.specs.Flows.{IsRead, found_cmp}
 use Rattle.cc_flows.proofs.Lists.{take_next}
 use Rattle.cc_flows.proofs.flow.gather_all.Goals as goal

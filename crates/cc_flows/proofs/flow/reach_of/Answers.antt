@@ -17,4 +17,4 @@ sweep-requires-clause-count c = omega (arith, ap (λ (xs : List ℕ). length xs)
 
 pub returns : goal.returns
 returns c = reached_ok c.args.ways.next.now c.args.ways.wipes.now c.args.definitions.now c.args.masks.now c.in_ok-clears.clears.items c.as_slice.result.now c.as_slice-2.result.now c.sweep.result
-    c.in_ok-clears.ensures.exact c.as_slice.ensures.value (c.as_slice-2.ensures.value ∙ c.in_ok-points.ensures) c.sweep.ensures
+    c.in_ok-clears.ensures.exact c.as_slice.ensures.value (c.as_slice-2.ensures.value ∙ c.in_ok-points.ensures) c.sweep.ensures.exact

@@ -8,9 +8,9 @@ pub visit-grew-requires-clause-fits : goal.visit-grew-requires-clause-fits
 visit-grew-requires-clause-fits c = fits_still c.args.next.now c.args.clears.now c.args.reach.now.items c.loop-point.reach.items c.args.dirty.now.items c.loop-point.dirty.items c.requires c.loop-point.invariant.visits
 
 pub loop-point-preserved : goal.loop-point-preserved
-loop-point-preserved c = visited_more c.args.next.now c.args.clears.now c.loop-point.any c.visit-grew.result c.either.result c.loop-point.point
+loop-point-preserved c = visited_more c.args.next.now c.args.clears.now c.loop-point.any c.visit-grew.result c.either-any.result c.loop-point.point
     c.args.reach.now.items c.loop-point.reach.items c.visit-grew.new.reach.items c.args.dirty.now.items c.loop-point.dirty.items c.visit-grew.new.dirty.items
-    c.either.ensures c.loop-point.invariant c.visit-grew.ensures.visits c.visit-grew.ensures.grew c.visit-grew.ensures.idle
+    c.either-any.ensures c.loop-point.invariant c.visit-grew.ensures.visits c.visit-grew.ensures.grew c.visit-grew.ensures.idle
 
 pub returns-clause-visits : goal.returns-clause-visits
 returns-clause-visits c = c.loop-point.invariant.visits
