@@ -50,10 +50,10 @@ filter_only p (z ∷ xs) x is = ⊎_elim
     (cond_cases (p z) z (filter p xs) x is)
 
 pub filter_new : {X : Type 0} (p : X → Bool) (xs : List X) (x : X) → Contains xs x → p x ≡ true → Contains (filter p xs) x
-filter_new p [] x is yes = absurd (none x is)
-filter_new p (z ∷ xs) x is yes = ⊎_elim
-    (λ e. subst (Contains (filter p (z ∷ xs))) e (cond_here (p z) z (filter p xs) (ap p e ∙ yes)))
-    (λ more. cond_later (p z) z (filter p xs) x (filter_new p xs x more yes))
+filter_new p [] x is passes = absurd (none x is)
+filter_new p (z ∷ xs) x is passes = ⊎_elim
+    (λ e. subst (Contains (filter p (z ∷ xs))) e (cond_here (p z) z (filter p xs) (ap p e ∙ passes)))
+    (λ more. cond_later (p z) z (filter p xs) x (filter_new p xs x more passes))
     (cons_cases z xs x is)
 
 pub map_only : {X Y : Type 0} (f : X → Y) (xs : List X) (y : Y) → Contains (map f xs) y → (x : X) × Contains xs x × (f x ≡ y)

@@ -18,7 +18,7 @@ use Rattle.cc_lanes.specs.Spreading.{goes, goes_in, goes_into, touch_of, IsInto,
 
 module _ (T : Tables) (lanes : List Pair) (w : Whose) (a : Access) (k : ℕ) where
   pub into : (out : List Touch) → goes_into T lanes w a k ≡ true → Gains out (out ++ touch_of T a k ∷ []) (IsInto T lanes w a k)
-  into out yes = gains_push out (touch_of T a k) (IsInto T lanes w a k) (yes, refl) (λ x i. i.1)
+  into out passes = gains_push out (touch_of T a k) (IsInto T lanes w a k) (passes, refl) (λ x i. i.1)
 
   pub not_into : (out : List Touch) → goes_into T lanes w a k ≡ false → Gains out out (IsInto T lanes w a k)
   not_into out no_way = gains_none out (IsInto T lanes w a k) (λ x i. let e = i.0 in cc)

@@ -1,6 +1,6 @@
 -- Tests.
 use Rattle.std.proofs.Common.{ℕ, ◌≡◌, ◌⊎◌, inl, inr, Bool, true, false, ◌&&◌, ◌||◌, refl, sym}
-use Rattle.std.specs.Prelude.{◌↔◌, IsTrue, nat_eq}
+use Rattle.std.specs.Prelude.{◌↔◌, IsTrue, nat_eq, Result, Err}
 use Rattle.std.proofs.lemmas.Bool.{cases_eq, eq-eqb, ne_eqb}
 
 pub test_is : (b : Bool) (n : ℕ) → IsTrue b ↔ (n ≡ 1) → b ≡ nat_eq n 1
@@ -26,3 +26,7 @@ pub true_or : (a b : Bool) → (a ≡ true) ⊎ (b ≡ true) → (a || b) ≡ tr
 true_or true b e = refl
 true_or false b (inl e) = absurd (let h = e in cc)
 true_or false b (inr e) = e
+
+-- an error that was handed on
+pub error_is : {X Y : Type 0} (r : Result X Y) (x y e : Y) → r ≡ Err x → x ≡ y → r ≡ Err e → y ≡ e
+error_is r x y e p q is = let a = p in let b = q in let c = is in cc

@@ -1,4 +1,4 @@
-use Rattle.std.proofs.Common.{ℕ, ◌≡◌, ◌<◌, List, length, subst}
+use Rattle.std.proofs.Common.{ℕ, ◌≡◌, ◌<◌, List, length, subst, arith}
 use Rattle.std.specs.Prelude.{Contains, map}
 use Rattle.cc_rows.specs.Gains.{Or}
 use Rattle.cc_rows.proofs.Gained.{gains_as_ok, more_as, or_as}
@@ -14,8 +14,9 @@ flows-requires-clause-definitions c = λ x is.
     let T = c.args.tables.now in
     let lanes = c.in_ok-lanes.lanes in
     let are : AreLanes T (map plain_lane c.args.targets.now) lanes = subst (λ ps. AreLanes T ps lanes) c.in_ok-pairs.ensures c.in_ok-lanes.ensures in
-    begins_within T (map plain_lane c.args.targets.now) lanes c.args.starts.now c.in_ok-begins.begins.items (length c.args.next.now) are c.in_ok-begins.ensures c.requires.starts x
-    (subst (λ (xs : List Touch). Contains xs x) c.as_slice-3.ensures.value is)
+    let w = begins_within T (map plain_lane c.args.targets.now) lanes c.args.starts.now c.in_ok-begins.begins.items (length c.args.next.now) are c.in_ok-begins.ensures c.requires.starts x
+    (subst (λ (xs : List Touch). Contains xs x) c.as_slice-3.ensures.value is) in
+    (omega (arith, w.0, c.len.ensures), w.1)
 
 pub returns-clause-found : goal.returns-clause-found
 returns-clause-found c =

@@ -11,5 +11,5 @@ returns c = joined c.args.roads.next.now c.args.roads.within.now c.args.tables.n
 pub connect_all-requires-clause-starts : goal.connect_all-requires-clause-starts
 connect_all-requires-clause-starts c = λ a is. rw c.requires.points (picked_within (stays c.args.tables.now) c.args.starts.now c.as_slice.result.now _ (c.as_slice.ensures.value ∙ c.in_ok-held.ensures) c.requires.starts a is)
 
-pub connect_all-requires-clause-starts-2 : goal.connect_all-requires-clause-starts-2
-connect_all-requires-clause-starts-2 c = picked_within (crosses c.args.tables.now) c.args.starts.now c.as_slice-2.result.now _ (c.as_slice-2.ensures.value ∙ c.in_ok-free.ensures) c.requires.starts
+pub connect_all-requires-2-clause-starts : goal.connect_all-requires-2-clause-starts
+connect_all-requires-2-clause-starts c = picked_within (crosses c.args.tables.now) c.args.starts.now c.as_slice-2.result.now _ (c.as_slice-2.ensures.value ∙ c.in_ok-free.ensures) c.requires.starts

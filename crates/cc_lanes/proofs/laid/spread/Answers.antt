@@ -1,4 +1,5 @@
-use Rattle.std.proofs.Common.{◌≡◌, take, slice_index_or, subst}
+use Rattle.std.proofs.Common.{ℕ, ◌≡◌, ◌∙◌, List, ap, take, slice_index_or, subst}
+use Rattle.cc_flows.specs.Masks.{row_of}
 use Rattle.std.specs.Prelude.{Contains}
 use Rattle.std.proofs.lemmas.Option.{slice_get-get_or}
 use Rattle.std.proofs.lemmas.List.{take_all}
@@ -19,7 +20,7 @@ loop-access-preserved c =
     let a : Access = slice_index_or items k (record { point = 0; slot = 0; occurrence = 0 }) in
     let at = slice_get-get_or items k (record { point = 0; slot = 0; occurrence = 0 }) c.loop-access-test.true in
     rw (take_next items k a at) (each_on (IsSpread c.args.tables.now c.args.lanes.now c.args.whose) (take k items) a c.new-out.result.items c.loop-access.out.items c.put_into_all.new.out.items c.loop-access.invariant
-    (rw c.lanes_at.ensures at c.in_ok-put_into_all.ensures))
+    (rw (c.lanes_at.ensures ∙ ap (λ (rows : List (List ℕ)). row_of rows a.slot) c.as_slice.ensures.value) at c.in_ok-put_into_all.ensures))
 
 pub returns : goal.returns
 returns c = gains_all c.new-out.result.items c.loop-access.out.items (Each c.args.accesses.now (IsSpread c.args.tables.now c.args.lanes.now c.args.whose)) c.new-out.ensures.items

@@ -1,4 +1,4 @@
-use Rattle.std.proofs.Common.{ℕ, ◌≡◌, ◌<◌, List, length, subst}
+use Rattle.std.proofs.Common.{ℕ, ◌≡◌, ◌<◌, List, length, subst, arith}
 use Rattle.std.specs.Prelude.{Contains}
 use Rattle.cc_rows.specs.Gains.{Or}
 use Rattle.cc_rows.proofs.Gained.{gains_as_ok, more_as, or_as}
@@ -10,8 +10,9 @@ use Rattle.cc_listing_shared.proofs.shared.find_rows.Goals as goal
 
 pub flows-requires-clause-definitions : goal.flows-requires-clause-definitions
 flows-requires-clause-definitions c = λ x is.
-    starts_within c.args.tables.now c.args.lanes.now c.args.reads.now c.args.live.now c.in_ok-starts.starts.items (length c.args.routes.next.now) c.requires.lanes c.in_ok-starts.ensures c.requires.live x
-    (subst (λ (xs : List Touch). Contains xs x) c.as_slice-3.ensures.value is)
+    let w = starts_within c.args.tables.now c.args.lanes.now c.args.reads.now c.args.live.now c.in_ok-starts.starts.items (length c.args.routes.next.now) c.requires.lanes c.in_ok-starts.ensures c.requires.live x
+    (subst (λ (xs : List Touch). Contains xs x) c.as_slice-3.ensures.value is) in
+    (omega (arith, w.0, c.len.ensures), w.1)
 
 pub returns-clause-found : goal.returns-clause-found
 returns-clause-found c =
