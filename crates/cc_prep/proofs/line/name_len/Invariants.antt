@@ -1,0 +1,9 @@
+use Rattle.std.proofs.Common.{◌≡◌, ◌+◌, length}
+use Rattle.cc_prep.specs.Lines as spec
+use Rattle.cc_prep.proofs.line.name_len.Given as goal
+
+abbrev pub invariant-loop-z : goal.invariant-loop-z
+invariant-loop-z l = (l.count + spec.name_len l.z ≡ spec.name_len l.initial.z) × (l.count + length l.z ≡ length l.initial.z)
+
+abbrev pub decreases-loop-z : goal.decreases-loop-z
+decreases-loop-z l = length l.z

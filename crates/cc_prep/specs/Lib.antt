@@ -1,0 +1,14 @@
+pub mod Comments
+pub mod Directives
+pub mod Expansion
+pub mod Faults
+pub mod FileNames
+pub mod Files
+pub mod Groups
+pub mod Kinds
+pub mod Lines
+pub mod Macros
+pub mod Marks
+pub mod Passages
+pub mod Replacement
+pub mod Stops
