@@ -1,13 +1,17 @@
 -- Files that are open, and the faults of their reading.
-use Rattle.std.proofs.Common.{◌≡◌, ◌⊎◌, ℕ, List, refl, sym, ap, ◌∙◌, subst, inl, inr}
-use Rattle.std.specs.Prelude.{Option, Some, None, IfSome}
+use Rattle.std.proofs.Common.{◌≡◌, ◌≤◌, ◌<◌, ◌+◌, ◌⊎◌, ℕ, true, List, [], ◌∷◌, ◌++◌, length, arith, refl, sym, ap, ◌∙◌, subst, inl, inr}
+use Rattle.std.specs.Prelude.{◌&&◌, All, Option, Some, None, IfSome, nat_le, nat_lt}
+use Rattle.std.proofs.lemmas.Bool.Decides.{nat_tests}
+use Rattle.std.proofs.lemmas.List.{get_or_append_left, length-append}
+use Rattle.std.proofs.lemmas.List.Elements.{All-append, All-cons, All-nil}
 use Rattle.std.specs.FinMap.{get}
 use Rattle.cc_base.specs.declared.place.Spot.{Spot}
 use Rattle.cc_io.specs.Shelf.{Files}
 use Rattle.cc_prep.specs.Faults.{Counts, Caused, IsTold, IsUnread, IsPlaceless, NamesPlace, fault_of}
 use Rattle.cc_prep.specs.Files.{NamesFile, IsIncluded, Here, Further, IsInnerFile, IsSource, IsOpen, IsPlace}
-use Rattle.cc_prep.specs.Marks.{IsSpotIn}
+use Rattle.cc_prep.specs.Marks.{IsMark, IsSpotIn}
 use Rattle.cc_prep.specs.Stops.{IsStopIn}
+use Rattle.cc_prep.specs.declared.file.OpenFile.{OpenFile}
 use Rattle.cc_prep.specs.declared.fault.Stop.{Stop}
 use Rattle.cc_prep.specs.declared.fault.Stop.TheVariants as stop
 use Rattle.cc_prep.specs.declared.fault.PrepFault.{PrepFault}
@@ -27,10 +31,36 @@ inner_file None bytes wanted contents a b = tt
 inner_file (Some files) bytes wanted contents a b = (a, b)
 
 -- the `#` of the outermost `include` line is a place of the project's file
-pub outermost_place : (files : Option Files) (name bytes file contents : List ℕ) (o : Option Spot) (hash : Spot) → IsSource files name bytes file contents o → IsSpotIn contents hash
-    → (at : Spot) → ((here : o ≡ None) → at ≡ hash) → ((a : Spot) → o ≡ Some a → at ≡ a) → IsSpotIn bytes at
-outermost_place files name bytes file contents None hash s h at here there = subst (IsSpotIn bytes) (sym (here refl)) (subst (λ z. IsSpotIn z hash) s.1 h)
-outermost_place files name bytes file contents (Some a) hash s h at here there = subst (IsSpotIn bytes) (sym (there a refl)) s.1
+pub outermost_some : (files : Option Files) (name bytes file contents : List ℕ) (o : Option Spot) (at : Spot) → IsSource files name bytes file contents o → o ≡ Some at → IsSpotIn bytes at
+outermost_some files name bytes file contents o at s e = (subst (IsSource files name bytes file contents) e s).1
+
+pub outermost_none : (files : Option Files) (name bytes file contents : List ℕ) (o : Option Spot) (at : Spot) → IsSource files name bytes file contents o → o ≡ None → IsSpotIn contents at → IsSpotIn bytes at
+outermost_none files name bytes file contents o at s e h = subst (λ z. IsSpotIn z at) (subst (IsSource files name bytes file contents) e s).1 h
+
+-- an included file, before its first line
+pub opened_file : (files : Option Files) (name bytes : List ℕ) (file : OpenFile) (wanted contents : List ℕ) (at : Spot) → file.name ≡ wanted → file.bytes ≡ contents → file.outermost ≡ Some at
+    → IsMark contents file.mark → length contents ≤ 1048576 → IsInnerFile files bytes wanted contents → IsSpotIn bytes at → IsOpen files name bytes file
+opened_file files name bytes file wanted contents at n b o mark small inner spot =
+    let source : IsSource files name bytes wanted contents (Some at) = (inner, spot) in
+    let with_name : IsSource files name bytes file.name contents (Some at) = subst (λ w. IsSource files name bytes w contents (Some at)) (sym n) source in
+    let with_bytes : IsSource files name bytes file.name file.bytes (Some at) = subst (λ w. IsSource files name bytes file.name w (Some at)) (sym b) with_name in
+    record {
+      source = subst (IsSource files name bytes file.name file.bytes) (sym o) with_bytes;
+      small = subst (λ w. length w ≤ 1048576) (sym b) small;
+      mark = subst (λ w. IsMark w file.mark) (sym b) mark;
+    }
+
+-- a file that was read on
+pub still_open : (files : Option Files) (name bytes : List ℕ) (old new : OpenFile) → IsOpen files name bytes old → new.name ≡ old.name → new.bytes ≡ old.bytes → new.outermost ≡ old.outermost
+    → IsMark old.bytes new.mark → IsOpen files name bytes new
+still_open files name bytes old new h n b o mark =
+    let with_name : IsSource files name bytes new.name old.bytes old.outermost = subst (λ w. IsSource files name bytes w old.bytes old.outermost) (sym n) h.source in
+    let with_bytes : IsSource files name bytes new.name new.bytes old.outermost = subst (λ w. IsSource files name bytes new.name w old.outermost) (sym b) with_name in
+    record {
+      source = subst (IsSource files name bytes new.name new.bytes) (sym o) with_bytes;
+      small = subst (λ w. length w ≤ 1048576) (sym b) h.small;
+      mark = subst (λ w. IsMark w new.mark) (sym b) mark;
+    }
 
 -- what is told of a file that can't be had
 pub unread_told : (o : Option Files) (bytes wanted : List ℕ) (f : PrepFault) → IfSome o (λ files. IsIncluded files bytes wanted) → IfSome o (λ files. IsUnread files wanted f)
@@ -93,3 +123,18 @@ fault_caused old new name file stop.Memory = tt
 pub stopped_caused : (old new : Counts) (name file : List ℕ) (s : Stop) (f : PrepFault) → IsStopped name file s f → Caused old new f
 stopped_caused old new name file s f (inl e) = subst (Caused old new) (sym e) (fault_caused old new name file s)
 stopped_caused old new name file s f (inr e) = subst (Caused old new) (sym e) tt
+
+-- ---- Lists of open files
+
+-- what holds of all of a list holds of all of its front
+pub all_front : {X : Type 0} (P : X → Type 0) (xs ys : List X) → All P (xs ++ ys) → All P xs
+all_front P xs ys all = λ k d h. subst P (get_or_append_left xs ys d k h) (all k d (omega (arith, length-append xs ys, h)))
+
+pub all_two : {X : Type 0} (P : X → Type 0) (xs : List X) (x y : X) → All P xs → P x → P y → All P ((xs ++ x ∷ []) ++ y ∷ [])
+all_two P xs x y all a b = All-append P (xs ++ x ∷ []) (y ∷ []) (All-append P xs (x ∷ []) all (All-cons P x [] a (All-nil P))) (All-cons P y [] b (All-nil P))
+
+pub may_less : (depth includes : ℕ) → true ≡ (nat_le depth 16 && nat_lt includes 1000) → includes < 1000
+may_less depth includes e = grind (arith, nat_tests)
+
+pub length_two : {X : Type 0} (xs new : List X) (x y : X) → new ≡ (xs ++ x ∷ []) ++ y ∷ [] → length new ≡ length xs + 2
+length_two xs new x y e = omega (arith, ap length e, length-append (xs ++ x ∷ []) (y ∷ []), length-append xs (x ∷ []))

@@ -58,15 +58,15 @@ least_unique bytes f g a b = both (a.least g.0 g.1 b.faulty) (b.least f.0 f.1 a.
 
 -- where each line of the form of a directive line stands in a comment, a fault of a passage is that of the text
 pub plain_refused : (text : List ℕ) (f : LexFault) → HasNoDirective text → IsPassageFault text false f → IsRefused text f
-plain_refused text f no (inl h) = h
-plain_refused text fault.Memory no (inr h) = tt
-plain_refused text (fault.At offset rule) no (inr h) =
-    let c = no h.0 h.1 in
+plain_refused text f none (inl h) = h
+plain_refused text fault.Memory none (inr h) = tt
+plain_refused text (fault.At offset rule) none (inr h) =
+    let c = none h.0 h.1 in
     absurd (h.3 (least_unique (take h.0 text) (offset, rule) (c.0, 2) h.2 c.1))
 
 -- and no passage ends before its end
 pub plain_whole : (text : List ℕ) (p : Passage) (line : Line) → HasNoDirective text → IsPassageTo text false p (Some line) → ⊥
-plain_whole text p line no is =
+plain_whole text p line none is =
     let d = is.0 in
-    let c = no line.at (record { head = line.head; within = omega (arith, d.is_line.some, d.is_line.within); begins = d.begins; form = d.form }) in
+    let c = none line.at (record { head = line.head; within = omega (arith, d.is_line.some, d.is_line.within); begins = d.begins; form = d.form }) in
     (is.1).faultless c.0 2 (c.1).faulty

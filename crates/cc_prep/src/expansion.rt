@@ -6,7 +6,7 @@
 ghost use Rattle.std.specs.Prelude.{◌≡◌, ◌≤◌, ◌<◌, ◌+◌, ◌*◌, ◌-◌, ◌⊎◌, ◌&&◌, ◌++◌, ◌∷◌, [], All, IfErr, IfOk, IfSome, OnOk, Option, Some, None, length, nat_le, nat_lt};
 ghost use Rattle.std.specs.FinMap.{get};
 ghost use Rattle.cc_lex.specs.Cut.{Cut, IsRefused};
-ghost use Rattle.cc_prep.specs.Faults.{Caused, IsLexicalOf, IsPlaceless, IsTold, IsUnread, NamesPlace, NoneFalls, counts_of, fault_of};
+ghost use Rattle.cc_prep.specs.Faults.{Caused, Counts, IsLexicalOf, IsPlaceless, IsTold, IsUnread, NamesPlace, NoneFalls, counts_of, fault_of};
 ghost use Rattle.cc_io.specs.Shelf.{Files};
 ghost use Rattle.cc_prep.specs.Files.{IsIncludeOf, IsOpen};
 ghost use Rattle.cc_prep.specs.Marks.{IsMark};
@@ -46,11 +46,13 @@ fn text_of(alloc: Global, name: &str) -> Result<Text, AllocError>
 }
 
 // A lexical fault of the file of the project.
-fn lexical(alloc: Global, source: Source<'_>, fault: LexFault) -> PrepFault
-    requires { length source.bytes.now ≤ 1048576 }
-    ensures plain { IsRefused source.bytes.now fault
-        → IsLexicalOf source.name.now source.bytes.now result }
-    ensures place { (files : Option Files) → NamesPlace files source.name.now source.bytes.now result }
+fn lexical(alloc: Global, source: &Source<'_>, fault: LexFault) -> PrepFault
+    requires { length source.now.bytes.now ≤ 1048576 }
+    ensures plain { IsRefused source.now.bytes.now fault
+        → IsLexicalOf source.now.name.now source.now.bytes.now result }
+    ensures caused { (old : Counts) → (new : Counts) → Caused old new result }
+    ensures told { (files : Files) → IsTold files source.now.bytes.now result }
+    ensures place { (files : Option Files) → NamesPlace files source.now.name.now source.now.bytes.now result }
 {
     match fault {
         LexFault::At { offset, rule } => {
@@ -119,9 +121,9 @@ fn bytes_of<S: Shelf>(alloc: Global, shelf: &mut S, name: &str) -> Result<Bytes,
 }
 
 // The file of the project, before its first line.
-fn project_file(alloc: Global, source: Source<'_>) -> Result<OpenFile, AllocError>
-    requires { length source.bytes.now ≤ 1048576 }
-    ensures { IfOk result (λ file. (files : Option Files) → IsOpen files source.name.now source.bytes.now file) }
+fn project_file(alloc: Global, source: &Source<'_>) -> Result<OpenFile, AllocError>
+    requires { length source.now.bytes.now ≤ 1048576 }
+    ensures { IfOk result (λ file. (files : Option Files) → IsOpen files source.now.name.now source.now.bytes.now file) }
 {
     let name = text_of(alloc, source.name)?;
     let bytes = source.bytes.to_vec(alloc)?;
@@ -161,20 +163,20 @@ fn may_include(depth: usize, includes: u32) -> bool
 fn open<S: Shelf>(
     alloc: Global,
     shelf: &mut S,
-    source: Source<'_>,
+    source: &Source<'_>,
     outer: &OpenFile,
     include: Include,
 ) -> Result<OpenFile, PrepFault>
-    requires outer { IsOpen (S.files shelf.old) source.name.now source.bytes.now outer.now }
+    requires outer { IsOpen (S.files shelf.old) source.now.name.now source.now.bytes.now outer.now }
     requires include { IsIncludeOf outer.now.bytes include }
-    ensures open { IfOk result (IsOpen (S.files shelf.old) source.name.now source.bytes.now) }
+    ensures open { IfOk result (IsOpen (S.files shelf.old) source.now.name.now source.now.bytes.now) }
     ensures keeps { S.files shelf.new ≡ S.files shelf.old }
     ensures none_falls { NoneFalls (counts_of (S.faults shelf.old) (S.misses shelf.old) (S.longs shelf.old))
         (counts_of (S.faults shelf.new) (S.misses shelf.new) (S.longs shelf.new)) }
     ensures caused { IfErr result (Caused (counts_of (S.faults shelf.old) (S.misses shelf.old) (S.longs shelf.old))
         (counts_of (S.faults shelf.new) (S.misses shelf.new) (S.longs shelf.new))) }
-    ensures told { IfSome (S.files shelf.old) (λ files. IfErr result (IsTold files source.bytes.now)) }
-    ensures place { IfErr result (NamesPlace (S.files shelf.old) source.name.now source.bytes.now) }
+    ensures told { IfSome (S.files shelf.old) (λ files. IfErr result (IsTold files source.now.bytes.now)) }
+    ensures place { IfErr result (NamesPlace (S.files shelf.old) source.now.name.now source.now.bytes.now) }
 {
     let outermost = match outer.outermost {
         Some(spot) => spot,
@@ -206,16 +208,16 @@ fn put_both(files: &mut Vec<OpenFile>, outer: OpenFile, inner: OpenFile) -> Resu
 fn read_innermost<S: Shelf>(
     alloc: Global,
     shelf: &mut S,
-    source: Source<'_>,
+    source: &Source<'_>,
     mut file: OpenFile,
     others: &mut Vec<OpenFile>,
     state: &mut State,
     includes: &mut u32,
 ) -> Result<(), PrepFault>
-    requires file { IsOpen (S.files shelf.old) source.name.now source.bytes.now file }
-    requires others { All (IsOpen (S.files shelf.old) source.name.now source.bytes.now) others.old.items }
+    requires file { IsOpen (S.files shelf.old) source.now.name.now source.now.bytes.now file }
+    requires others { All (IsOpen (S.files shelf.old) source.now.name.now source.now.bytes.now) others.old.items }
     requires includes { includes.old ≤ 1000 }
-    ensures others { OnOk result (All (IsOpen (S.files shelf.old) source.name.now source.bytes.now) others.new.items) }
+    ensures others { OnOk result (All (IsOpen (S.files shelf.old) source.now.name.now source.now.bytes.now) others.new.items) }
     ensures includes { OnOk result (includes.new ≤ 1000) }
     ensures less { OnOk result (length others.new.items + 2 * (1000 - includes.new)
         ≤ length others.old.items + 2 * (1000 - includes.old)) }
@@ -224,8 +226,8 @@ fn read_innermost<S: Shelf>(
         (counts_of (S.faults shelf.new) (S.misses shelf.new) (S.longs shelf.new)) }
     ensures caused { IfErr result (Caused (counts_of (S.faults shelf.old) (S.misses shelf.old) (S.longs shelf.old))
         (counts_of (S.faults shelf.new) (S.misses shelf.new) (S.longs shelf.new))) }
-    ensures told { IfSome (S.files shelf.old) (λ files. IfErr result (IsTold files source.bytes.now)) }
-    ensures place { IfErr result (NamesPlace (S.files shelf.old) source.name.now source.bytes.now) }
+    ensures told { IfSome (S.files shelf.old) (λ files. IfErr result (IsTold files source.now.bytes.now)) }
+    ensures place { IfErr result (NamesPlace (S.files shelf.old) source.now.name.now source.now.bytes.now) }
 {
     match read_on(alloc, &mut file, state) {
         Ok(None) => Ok(()),
@@ -248,17 +250,17 @@ fn read_innermost<S: Shelf>(
 fn read_all<S: Shelf>(
     alloc: Global,
     shelf: &mut S,
-    source: Source<'_>,
+    source: &Source<'_>,
     file: OpenFile,
 ) -> Result<TokenList, PrepFault>
-    requires { IsOpen (S.files shelf.old) source.name.now source.bytes.now file }
+    requires { IsOpen (S.files shelf.old) source.now.name.now source.now.bytes.now file }
     ensures keeps { S.files shelf.new ≡ S.files shelf.old }
     ensures none_falls { NoneFalls (counts_of (S.faults shelf.old) (S.misses shelf.old) (S.longs shelf.old))
         (counts_of (S.faults shelf.new) (S.misses shelf.new) (S.longs shelf.new)) }
     ensures caused { IfErr result (Caused (counts_of (S.faults shelf.old) (S.misses shelf.old) (S.longs shelf.old))
         (counts_of (S.faults shelf.new) (S.misses shelf.new) (S.longs shelf.new))) }
-    ensures told { IfSome (S.files shelf.old) (λ files. IfErr result (IsTold files source.bytes.now)) }
-    ensures place { IfErr result (NamesPlace (S.files shelf.old) source.name.now source.bytes.now) }
+    ensures told { IfSome (S.files shelf.old) (λ files. IfErr result (IsTold files source.now.bytes.now)) }
+    ensures place { IfErr result (NamesPlace (S.files shelf.old) source.now.name.now source.now.bytes.now) }
 {
     let mut state = State::new(alloc);
     let mut files = Vec::new(alloc);
@@ -288,16 +290,16 @@ fn read_all<S: Shelf>(
 fn carry_out<S: Shelf>(
     alloc: Global,
     shelf: &mut S,
-    source: Source<'_>,
+    source: &Source<'_>,
 ) -> Result<TokenList, PrepFault>
-    requires { length source.bytes.now ≤ 1048576 }
+    requires { length source.now.bytes.now ≤ 1048576 }
     ensures keeps { S.files shelf.new ≡ S.files shelf.old }
     ensures none_falls { NoneFalls (counts_of (S.faults shelf.old) (S.misses shelf.old) (S.longs shelf.old))
         (counts_of (S.faults shelf.new) (S.misses shelf.new) (S.longs shelf.new)) }
     ensures caused { IfErr result (Caused (counts_of (S.faults shelf.old) (S.misses shelf.old) (S.longs shelf.old))
         (counts_of (S.faults shelf.new) (S.misses shelf.new) (S.longs shelf.new))) }
-    ensures told { IfSome (S.files shelf.old) (λ files. IfErr result (IsTold files source.bytes.now)) }
-    ensures place { IfErr result (NamesPlace (S.files shelf.old) source.name.now source.bytes.now) }
+    ensures told { IfSome (S.files shelf.old) (λ files. IfErr result (IsTold files source.now.bytes.now)) }
+    ensures place { IfErr result (NamesPlace (S.files shelf.old) source.now.name.now source.now.bytes.now) }
 {
     match project_file(alloc, source) {
         Ok(file) => read_all(alloc, shelf, source, file),
@@ -332,13 +334,12 @@ pub fn expand<S: Shelf>(
     ensures place { IfErr result (NamesPlace (S.files shelf.old) name.now bytes.now) }
 {
     let source = Source { name, bytes };
-    match next_passage(alloc, bytes, false) {
-        Ok(passage) => {
-            if passage.line.is_none() {
-                return Ok(passage.tokens);
-            }
-        }
-        Err(fault) => return Err(lexical(alloc, source, fault)),
+    let passage = match next_passage(alloc, bytes, false) {
+        Ok(passage) => passage,
+        Err(fault) => return Err(lexical(alloc, &source, fault)),
+    };
+    match passage.line {
+        None => Ok(passage.tokens),
+        Some(_) => carry_out(alloc, shelf, &source),
     }
-    carry_out(alloc, shelf, source)
 }

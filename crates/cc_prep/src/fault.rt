@@ -22,7 +22,7 @@ pub enum PrepFault {
 }
 
 /// Why the reading of one file stops.
-#[derive(Clone, Copy, Debug, PartialEq, Eq)]
+#[derive(Clone, Copy)]
 pub(crate) enum Stop {
     /// Rule L`rule` fails at this spot of the file.
     Lexical { spot: Spot, rule: u8 },

@@ -6,7 +6,7 @@ ghost use Rattle.cc_prep.specs.Groups.{innermost};
 use cc_base::Memory;
 
 /// A group that is open.
-#[derive(Clone, Copy, Debug, PartialEq, Eq)]
+#[derive(Clone, Copy)]
 pub struct Group {
     /// How many bytes of the file stand before the `#` that opened it.
     pub hash: usize,

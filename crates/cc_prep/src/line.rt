@@ -6,7 +6,7 @@ ghost use Rattle.cc_lex.specs.Bytes.{count_front};
 ghost use Rattle.cc_prep.specs.Lines as spec;
 
 /// The word of a directive line.
-#[derive(Clone, Copy, Debug, PartialEq, Eq)]
+#[derive(Clone, Copy)]
 pub enum Word {
     Define,
     Undef,
@@ -20,7 +20,7 @@ pub enum Word {
 }
 
 /// The beginning of a directive line.
-#[derive(Clone, Copy, Debug, PartialEq, Eq)]
+#[derive(Clone, Copy)]
 pub struct Head {
     pub word: Word,
     /// How many bytes of the line stand before its `#`.

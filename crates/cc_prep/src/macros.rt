@@ -33,8 +33,11 @@ impl Macros {
         ensures none { IfNone result (macro_in self.now.lists.entries name.now ≡ None) }
     {
         match self.lists.get_full(name) {
-            Some((number, _, Some(list))) => Some((number, list.as_slice())),
-            _ => None,
+            Some((number, _, list)) => match list {
+                Some(list) => Some((number, list.as_slice())),
+                None => None,
+            },
+            None => None,
         }
     }
 

@@ -6,7 +6,7 @@ ghost use Rattle.cc_prep.specs.Marks as spec;
 use cc_base::Spot;
 
 /// A place of a file.
-#[derive(Clone, Copy, Debug, PartialEq, Eq)]
+#[derive(Clone, Copy)]
 pub struct Mark {
     /// How many bytes stand before it.
     pub at: usize,

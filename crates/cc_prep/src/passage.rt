@@ -13,7 +13,7 @@ use std::alloc::Global;
 const OPEN_COMMENT: u8 = 2;
 
 /// A directive line, and where it stands.
-#[derive(Clone, Copy, Debug, PartialEq, Eq)]
+#[derive(Clone, Copy)]
 pub struct Line {
     /// How many bytes stand before it.
     pub at: usize,

@@ -13,7 +13,7 @@ use cc_lex::{Token, TokenKind};
 use std::alloc::Global;
 
 /// Where the tokens of a text stand in the project's file.
-#[derive(Clone, Copy, Debug, PartialEq, Eq)]
+#[derive(Clone, Copy)]
 pub enum Origin {
     /// The text is one of the project's file and begins here.
     Project(Spot),
