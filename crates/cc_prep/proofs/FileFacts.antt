@@ -124,6 +124,11 @@ pub stopped_caused : (old new : Counts) (name file : List ℕ) (s : Stop) (f : P
 stopped_caused old new name file s f (inl e) = subst (Caused old new) (sym e) (fault_caused old new name file s)
 stopped_caused old new name file s f (inr e) = subst (Caused old new) (sym e) tt
 
+-- what is told over all files
+pub told_all : (o : Option Files) (bytes : List ℕ) (f : PrepFault) → ((files : Files) → IsTold files bytes f) → IfSome o (λ files. IsTold files bytes f)
+told_all None bytes f h = tt
+told_all (Some files) bytes f h = h files
+
 -- ---- Lists of open files
 
 -- what holds of all of a list holds of all of its front

@@ -2,7 +2,8 @@
 use Rattle.std.proofs.Common.{◌≡◌, ◌≤◌, ◌<◌, ◌+◌, ◌-◌, ℕ, Bool, false, List, [], ◌++◌, length, take, drop, refl, sym, ap, ◌∙◌, subst, arith, inl, inr}
 use Rattle.std.specs.Prelude.{Contains, Option, Some, None}
 use Rattle.std.specs.List.{slice_range}
-use Rattle.std.proofs.lemmas.List.{take-append-drop, append-nil}
+use Rattle.std.proofs.lemmas.List.{take-append-drop, append-nil, length-drop}
+use Rattle.std.proofs.Math.Seq.{take-length}
 use Rattle.cc_base.specs.declared.place.Spot.{Spot}
 use Rattle.cc_lex.specs.Cut.{Cut, IsRefused, StandsAt}
 use Rattle.cc_lex.specs.Faults.{IsLeastFault, NotAfter}
@@ -21,6 +22,10 @@ use Rattle.cc_prep.proofs.SpotFacts.{token_place}
 -- `&s[..n]`
 pub front_is : (z : List ℕ) (n : ℕ) → slice_range z 0 n ≡ take n z
 front_is z n = ap (λ k. take k z) (omega arith)
+
+-- `&s[at..]`
+pub rest_is : (z : List ℕ) (at : ℕ) → slice_range z at (length z) ≡ drop at z
+rest_is z at = ap (λ k. take k (drop at z)) (sym (length-drop at z)) ∙ take-length (drop at z)
 
 -- `&s[at..at + n]`
 pub part_is : (z : List ℕ) (at n : ℕ) → slice_range z at (at + n) ≡ take n (drop at z)

@@ -48,6 +48,13 @@ IsDirectiveIn bytes (stop.Directive at rule) = IsSpotIn bytes at
 IsDirectiveIn bytes stop.Memory = Unit {0}
 IsDirectiveIn bytes _ = ⊥
 
+-- a stop at a place of the bytes; or memory was wanting
+abbrev pub IsLocalStop : List ℕ → Stop → Type 0
+IsLocalStop bytes (stop.Lexical at rule) = IsSpotIn bytes at
+IsLocalStop bytes (stop.Directive at rule) = IsSpotIn bytes at
+IsLocalStop bytes (stop.TooManyTokens at) = ⊥
+IsLocalStop bytes stop.Memory = Unit {0}
+
 -- the spot is one of the project's file, which is this one where it is not included
 abbrev pub IsOutermost : List ℕ → Option Spot → Spot → Type 0
 IsOutermost bytes None spot = IsSpotIn bytes spot

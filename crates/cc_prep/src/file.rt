@@ -8,7 +8,7 @@ ghost use Rattle.cc_prep.specs.Files.{IsIncludeOf};
 ghost use Rattle.cc_prep.specs.Kinds.{IsOneString};
 ghost use Rattle.cc_prep.specs.Marks.{IsMark};
 ghost use Rattle.cc_prep.specs.Passages.{IsLineOf, IsPassage};
-ghost use Rattle.cc_prep.specs.Stops.{IsBroken, IsDirectiveIn, IsLexicalIn, IsStopIn, IsTooManyIn, origin_in};
+ghost use Rattle.cc_prep.specs.Stops.{IsBroken, IsDirectiveIn, IsLexicalIn, IsLocalStop, IsStopIn, IsTooManyIn, origin_in};
 
 use crate::directive::{broken, define, included, nothing, only_name, undef};
 use crate::fault::Stop;
@@ -21,6 +21,7 @@ use crate::passage::{Line, Passage, next_group_line, next_passage};
 use crate::replacement::{Origin, add_text};
 use crate::rule::{UNPAIRED, WRONG_REST};
 use cc_base::{Bytes, Spot, Text};
+use cc_lex::laws::each_token_has_the_spot_of_its_offset;
 use cc_lex::{LexFault, Token, TokenList, lex};
 use std::alloc::Global;
 
@@ -256,6 +257,36 @@ fn origin_of(outermost: Option<Spot>, spot: Spot) -> Origin
     }
 }
 
+// Carries out a directive line of the text that begins at the mark. Moves the mark behind it.
+fn read_line(
+    alloc: Global,
+    bytes: &[u8],
+    mark: &mut Mark,
+    line: Line,
+    groups: &mut Vec<Group>,
+    macros: &mut Macros,
+) -> Result<Option<Include>, Stop>
+    requires small { length bytes.now ≤ 1048576 }
+    requires mark { IsMark bytes.now mark.old }
+    requires line { IsLineOf (drop mark.old.at bytes.now) line }
+    ensures mark { IsMark bytes.now mark.new }
+    ensures moves { mark.old.at < mark.new.at }
+    ensures include { IfOk result (λ o. IfSome o (IsIncludeOf bytes.now)) }
+    ensures stops { IfErr result (IsLocalStop bytes.now) }
+{
+    let parts = parts_of(bytes, *mark, line);
+    *mark = parts.end;
+    let tokens = match tokens_of(alloc, bytes, parts.rest, parts.end.at) {
+        Ok(tokens) => tokens,
+        Err(stop) => return Err(stop),
+    };
+    let word = line.head.word;
+    match carry_out(alloc, macros, groups, word, tokens.as_slice(), parts.hash) {
+        Ok(include) => Ok(include),
+        Err(stop) => Err(stop),
+    }
+}
+
 // Reads text up to the next directive line, and carries that out. Moves the mark behind it.
 fn read_text(
     alloc: Global,
@@ -273,24 +304,24 @@ fn read_text(
     ensures include { IfOk result (λ o. IfSome o (IsIncludeOf bytes.now)) }
     ensures stops { IfErr result (IsStopIn bytes.now outermost) }
 {
-    let passage = passage_at(alloc, bytes, *mark, !groups.is_empty())?;
-    let origin = origin_of(outermost, mark.spot);
-    state.add_text(alloc, passage.tokens.as_slice(), origin)?;
-    let Some(line) = passage.line else {
-        *mark = mark.to(bytes, bytes.len());
-        return Ok(None);
+    // The law by which the places of tokens are places of the file.
+    each_token_has_the_spot_of_its_offset();
+    let passage = match passage_at(alloc, bytes, *mark, !groups.is_empty()) {
+        Ok(passage) => passage,
+        Err(stop) => return Err(stop),
     };
-    let parts = parts_of(bytes, *mark, line);
-    *mark = parts.end;
-    let tokens = tokens_of(alloc, bytes, parts.rest, parts.end.at)?;
-    carry_out(
-        alloc,
-        &mut state.macros,
-        groups,
-        line.head.word,
-        tokens.as_slice(),
-        parts.hash,
-    )
+    let origin = origin_of(outermost, mark.spot);
+    match state.add_text(alloc, passage.tokens.as_slice(), origin) {
+        Ok(()) => {}
+        Err(stop) => return Err(stop),
+    }
+    match passage.line {
+        Some(line) => read_line(alloc, bytes, mark, line, groups, &mut state.macros),
+        None => {
+            *mark = mark.to(bytes, bytes.len());
+            Ok(None)
+        }
+    }
 }
 
 // Goes on to the next group line, and carries that out. Moves the mark behind it.
@@ -308,7 +339,10 @@ fn skip_text(bytes: &[u8], mark: &mut Mark, groups: &mut Vec<Group>) -> Result<(
     };
     let parts = parts_of(bytes, *mark, line);
     *mark = parts.end;
-    pass_over(groups, line.head.word, parts.hash)
+    match pass_over(groups, line.head.word, parts.hash) {
+        Ok(()) => Ok(()),
+        Err(stop) => Err(stop),
+    }
 }
 
 // Reads on from the mark, up to the end of the bytes or the next file that they include.
@@ -328,15 +362,22 @@ fn read_from(
 {
     while mark.at < bytes.len() {
         if is_active(groups) {
-            if let Some(include) = read_text(alloc, bytes, mark, outermost, groups, state)? {
-                return Ok(Some(include));
+            match read_text(alloc, bytes, mark, outermost, groups, state) {
+                Ok(Some(include)) => return Ok(Some(include)),
+                Ok(None) => {}
+                Err(stop) => return Err(stop),
             }
         } else {
-            skip_text(bytes, mark, groups)?;
+            match skip_text(bytes, mark, groups) {
+                Ok(()) => {}
+                Err(stop) => return Err(stop),
+            }
         }
     }
-    end(bytes, groups)?;
-    Ok(None)
+    match end(bytes, groups) {
+        Ok(()) => Ok(None),
+        Err(stop) => Err(stop),
+    }
 }
 
 /// Reads a file on, up to its end or the next file that it includes.

@@ -1,4 +1,4 @@
-use Rattle.std.proofs.Common.{◌≡◌, ◌++◌, ◌∷◌, [], sym, subst, arith}
+use Rattle.std.proofs.Common.{◌≡◌, ◌+◌, ◌++◌, ◌∷◌, [], sym, subst, arith}
 use Rattle.std.specs.Prelude.{All}
 use Rattle.std.proofs.lemmas.Result.{on_ok_weaker}
 use Rattle.cc_prep.specs.Files.{IsOpen}
@@ -17,7 +17,7 @@ returns-in-Ok-clause-others g c =
 
 pub returns-in-Ok-clause-less : goal.returns-in-Ok-clause-less
 returns-in-Ok-clause-less g c =
-    let few = may_less _ _ c.if-not-may_include.ensures in
+    let few = may_less (c.len.result + 1) c.args.includes.now c.if-not-may_include.ensures in
     on_ok_weaker c.put_both.result
     (λ (e : c.put_both.new.files.items ≡ (c.args.others.now.items ++ c.read_on.new.file ∷ []) ++ c.in-Ok.inner ∷ []).
     omega (arith, few, length_two c.args.others.now.items c.put_both.new.files.items c.read_on.new.file c.in-Ok.inner e))
