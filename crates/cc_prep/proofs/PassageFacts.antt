@@ -19,10 +19,6 @@ use Rattle.cc_prep.specs.declared.passage.Line.{Line}
 use Rattle.cc_prep.specs.declared.passage.Passage.{Passage}
 use Rattle.cc_prep.proofs.SpotFacts.{token_place}
 
--- `&s[..n]`
-pub front_is : (z : List ℕ) (n : ℕ) → slice_range z 0 n ≡ take n z
-front_is z n = ap (λ k. take k z) (omega arith)
-
 -- `&s[at..]`
 pub rest_is : (z : List ℕ) (at : ℕ) → slice_range z at (length z) ≡ drop at z
 rest_is z at = ap (λ k. take k (drop at z)) (sym (length-drop at z)) ∙ take-length (drop at z)
@@ -34,13 +30,16 @@ part_is z at n = ap (λ k. take k (drop at z)) (omega arith)
 pub line_begins : (text : List ℕ) (at len : ℕ) → BeginsLine text at → len ≡ line_len (drop at text) → BeginsLine text (at + len)
 line_begins text at len h e = subst (λ n. BeginsLine text (at + n)) (sym e) (Next h)
 
+-- the beginning of a line, as it was read
+pub line_form : (text line : List ℕ) (in_group : Bool) (at len : ℕ) (head : Head) → len ≡ line_len (drop at text) → line ≡ slice_range text at (at + len) → Some head ≡ directive_of in_group line
+    → directive_of in_group (line_of (drop at text)) ≡ Some head
+line_form text line in_group at len head e l form =
+    ap (directive_of in_group) (ap (λ n. take n (drop at text)) (sym e) ∙ sym (part_is text at len) ∙ sym l) ∙ sym form
+
 pub has_form : (text line : List ℕ) (in_group : Bool) (at len : ℕ) (head : Head) → at < length text → BeginsLine text at → len ≡ line_len (drop at text)
     → line ≡ slice_range text at (at + len) → Some head ≡ directive_of in_group line → HasForm text in_group at
 has_form text line in_group at len head within begins e l form =
-    record {
-      head = head; within = within; begins = begins;
-      form = ap (directive_of in_group) (ap (λ n. take n (drop at text)) (sym e) ∙ sym (part_is text at len) ∙ sym l) ∙ sym form;
-    }
+    record { head = head; within = within; begins = begins; form = line_form text line in_group at len head e l form }
 
 -- the tokens of a passage stand at places of the bytes
 pub passage_places : ((b : List ℕ) → (ts : List Token) → Cut b ts → (t : Token) → Contains ts t → (offset : ℕ) × StandsAt b offset t)
