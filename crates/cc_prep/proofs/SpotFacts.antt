@@ -104,7 +104,9 @@ token_place law bytes m text rest tokens t small h there cut among =
     let within = stands_within text k t p.1 in
     let lengths : length text + length rest ≡ length bytes - m.at = sym (length-append text rest) ∙ sym (ap length there) ∙ length-drop m.at bytes in
     let front : take k text ≡ slice_range bytes m.at (m.at + k) = sym (take-append-le k text rest within) ∙ ap (take k) (sym there) ∙ ap (λ n. take n (drop m.at bytes)) (omega arith) in
-    let n = length-take k text in
-    (m.at + k, omega (arith, h.within),
+    let n = length-take k text in (
+      m.at + k,
+      omega (arith, h.within),
       ap (shifted m.spot) (p.1).spot_is ∙ shifted-part m.spot (take k text) (omega (arith, n, h.line, h.within)) (omega (arith, n, h.column, h.within))
-      ∙ ap (spot_behind m.spot) front ∙ ap (λ s. spot_behind s (slice_range bytes m.at (m.at + k))) h.spot_is ∙ spot_at-range bytes m.at (m.at + k) (omega arith))
+          ∙ ap (spot_behind m.spot) front ∙ ap (λ s. spot_behind s (slice_range bytes m.at (m.at + k))) h.spot_is ∙ spot_at-range bytes m.at (m.at + k) (omega arith),
+    )

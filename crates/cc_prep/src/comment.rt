@@ -23,7 +23,9 @@ fn behind_comment(mut z: &[u8]) -> Option<&[u8]>
     ensures { IfSome result (λ rest. length rest.now ≤ length z.entry.now) }
 {
     while let [b, rest @ ..] = z {
-        if *b == b'*' && let [b'/', behind @ ..] = rest {
+        if *b == b'*'
+            && let [b'/', behind @ ..] = rest
+        {
             return Some(behind);
         }
         z = rest;

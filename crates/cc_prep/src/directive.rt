@@ -61,12 +61,7 @@ fn has_parameters(name: &Text, spot: Spot, list: &[Token]) -> bool {
 }
 
 /// `define`: gives the name at the front its list.
-pub fn define(
-    alloc: Global,
-    macros: &mut Macros,
-    tokens: &[Token],
-    hash: Spot,
-) -> Result<(), Stop>
+pub fn define(alloc: Global, macros: &mut Macros, tokens: &[Token], hash: Spot) -> Result<(), Stop>
     ensures { IfErr result (IsBroken hash) }
 {
     let [
@@ -83,7 +78,9 @@ pub fn define(
         return Err(broken(PARAMETERS, hash));
     }
     let kinds = kinds_of(alloc, list)?;
-    if let Some((_, before)) = macros.find(name.as_str()) && !are_same_kinds(before, kinds.as_slice()) {
+    if let Some((_, before)) = macros.find(name.as_str())
+        && !are_same_kinds(before, kinds.as_slice())
+    {
         return Err(broken(OTHER_LIST, hash));
     }
     macros.bind(alloc, name.as_str(), Some(kinds))?;
@@ -91,12 +88,7 @@ pub fn define(
 }
 
 /// `undef`: takes the macro of the name away.
-pub fn undef(
-    alloc: Global,
-    macros: &mut Macros,
-    tokens: &[Token],
-    hash: Spot,
-) -> Result<(), Stop>
+pub fn undef(alloc: Global, macros: &mut Macros, tokens: &[Token], hash: Spot) -> Result<(), Stop>
     ensures { IfErr result (IsBroken hash) }
 {
     let name = only_name(tokens, hash)?;

@@ -21,29 +21,30 @@ loop-at-preserved c =
 pub returns-in-Ok-Some-clause-passage : goal.returns-in-Ok-Some-clause-passage
 returns-in-Ok-Some-clause-passage c =
     let text = c.args.text.now in
-    let at = c.loop-at.at in
+    let start = c.loop-at.at in
     let len = c.line_len-len.result in
-    let len_is = c.line_len-len.ensures.value ∙ ap line_len (rest_is text at) in
-    let rest = ap length (rest_is text at) in
-    let cut : Cut (take at text) c.in-Ok-Some.tokens = rw c.in-Ok-Some.field-0-is at c.in-Ok-Some.ensures.found in
-    (record {
-      is_line = record {
-        len_is = len_is;
-        some = c.line_len-len.ensures.some (omega (arith, rest, length-drop at text));
-        within = omega (arith, c.line_len-len.ensures.within, rest, length-drop at text);
-        hash_within = c.in-Some.ensures.hash;
-        rest_within = omega (arith, c.in-Some.ensures.rest, length-take len (drop at text), ap length (part_is text at len));
-      };
-      begins = c.loop-at.invariant.begins;
-      form = line_form text (slice_range text at (at + len)) c.args.in_group at len c.in-Some.head len_is refl c.in-Some.ensures.value;
-    },
-      cut)
+    let len_is = c.line_len-len.ensures.value ∙ ap line_len (rest_is text start) in
+    let rest = ap length (rest_is text start) in
+    let cut : Cut (take start text) c.in-Ok-Some.tokens = rw c.in-Ok-Some.field-0-is at c.in-Ok-Some.ensures.found in (
+      record {
+        is_line = record {
+          len_is = len_is;
+          some = c.line_len-len.ensures.some (omega (arith, rest, length-drop start text));
+          within = omega (arith, c.line_len-len.ensures.within, rest, length-drop start text);
+          hash_within = c.in-Some.ensures.hash;
+          rest_within = omega (arith, c.in-Some.ensures.rest, length-take len (drop start text), ap length (part_is text start len));
+        };
+        begins = c.loop-at.invariant.begins;
+        form = line_form text (slice_range text start (start + len)) c.args.in_group start len c.in-Some.head len_is refl c.in-Some.ensures.value;
+      },
+      cut,
+    )
 
 pub returns-in-Err-clause-fault : goal.returns-in-Err-clause-fault
 returns-in-Err-clause-fault c =
     let text = c.args.text.now in
-    let at = c.loop-at.at in
+    let start = c.loop-at.at in
     let len = c.line_len-len.result in
-    let len_is = c.line_len-len.ensures.value ∙ ap line_len (rest_is text at) in
-    let form = has_form text (slice_range text at (at + len)) c.args.in_group at len c.in-Some.head c.loop-at-test.true c.loop-at.invariant.begins len_is refl c.in-Some.ensures.value in
-    inr (at, form, c.in-Err.ensures.refused, c.in-Err.ensures.other)
+    let len_is = c.line_len-len.ensures.value ∙ ap line_len (rest_is text start) in
+    let form = has_form text (slice_range text start (start + len)) c.args.in_group start len c.in-Some.head c.loop-at-test.true c.loop-at.invariant.begins len_is refl c.in-Some.ensures.value in
+    inr (start, form, c.in-Err.ensures.refused, c.in-Err.ensures.other)
