@@ -17,6 +17,11 @@ abbrev pub IsToldIn : Files → (contents : List (List ℕ)) → FrontFault → 
 IsToldIn files contents (front.Expansion fault) = (bytes : List ℕ) × Contains contents bytes × IsTold files bytes fault
 IsToldIn files contents _ = Unit {0}
 
+-- a fault of another kind
+abbrev pub IsOther : FrontFault → Type 0
+IsOther (front.Expansion fault) = ⊥
+IsOther _ = Unit {0}
+
 -- the same of one file, whichever it is
 abbrev pub IsFileCaused : (old new : Counts) → FileFault → Type 0
 IsFileCaused old new (file.Expansion fault) = Caused old new fault

@@ -1,7 +1,7 @@
 // The program of a project and its tests.
 ghost use Rattle.std.specs.Prelude.{◌≡◌, ◌≤◌, All, IfErr, IfSome, length};
 ghost use Rattle.cc_prep.specs.Faults.{NoneFalls, counts_of};
-ghost use Rattle.cc_front.specs.Faults.{IsCaused, IsToldIn};
+ghost use Rattle.cc_front.specs.Faults.{IsCaused, IsOther, IsToldIn};
 
 use crate::fault::{Fault, FrontFault};
 use crate::files::check_files;
@@ -36,7 +36,9 @@ impl Built {
 }
 
 // Why the files make no program.
-fn unlinked(fault: LinkFault) -> FrontFault {
+fn unlinked(fault: LinkFault) -> FrontFault
+    ensures { IsOther result }
+{
     match fault {
         LinkFault::Offence { place, rule } => FrontFault::At {
             file: place.file.0,
@@ -52,7 +54,9 @@ fn unlinked(fault: LinkFault) -> FrontFault {
 }
 
 // Why the tests don't suit the program.
-fn unbound(fault: TestFault) -> FrontFault {
+fn unbound(fault: TestFault) -> FrontFault
+    ensures { IsOther result }
+{
     match fault {
         TestFault::Shape { test, call, rule } => FrontFault::Test { test, call, rule },
         TestFault::Memory => FrontFault::Memory,
@@ -60,7 +64,9 @@ fn unbound(fault: TestFault) -> FrontFault {
 }
 
 // The program with the project's tests.
-fn with_tests(alloc: Global, project: &Project, program: Program) -> Result<Built, FrontFault> {
+fn with_tests(alloc: Global, project: &Project, program: Program) -> Result<Built, FrontFault>
+    ensures { IfErr result IsOther }
+{
     match bind_tests(alloc, project, &program) {
         Ok(tests) => Ok(Built { program, tests }),
         Err(fault) => Err(unbound(fault)),

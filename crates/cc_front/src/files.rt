@@ -104,7 +104,10 @@ pub(crate) fn check_files<S: Shelf>(
         match check_file(alloc, shelf, file, name, bytes, &mut next, known, arena) {
             Ok(checked) => {
                 known = checked.known;
-                units.push(checked.unit)?;
+                match units.push(checked.unit) {
+                    Ok(()) => {}
+                    Err(_) => return Err(FrontFault::Memory),
+                }
             }
             Err(fault) => return Err(fault.in_file(file)),
         }

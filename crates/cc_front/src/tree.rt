@@ -1,7 +1,7 @@
 // The numbered tree of a file.
 ghost use Rattle.std.specs.Prelude.{◌≡◌, ◌≤◌, ◌<◌, ◌^◌, IfErr, IfSome, OnOk, length};
 ghost use Rattle.cc_prep.specs.Faults.{NoneFalls, counts_of};
-ghost use Rattle.cc_front.specs.Faults.{IsFileCaused, IsFileTold};
+ghost use Rattle.cc_front.specs.Faults.{IsFileCaused, IsFileTold, IsNoExpansion};
 
 use crate::fault::{Fault, FileFault};
 use cc_base::Spot;
@@ -59,6 +59,7 @@ fn token_spot(bytes: &[u8], tokens: &TokenList, token: u64) -> Spot
 // Why the tokens have no tree.
 fn syntactic(bytes: &[u8], tokens: &TokenList, fault: ParseFault) -> FileFault
     requires { length bytes.now ≤ 1048576 }
+    ensures { IsNoExpansion result }
 {
     match fault {
         ParseFault::Syntax { token } => FileFault::At {
@@ -76,7 +77,8 @@ fn syntactic(bytes: &[u8], tokens: &TokenList, fault: ParseFault) -> FileFault
 // The tree with its nodes numbered from `next` on, which is then the number after the last.
 fn numbered(alloc: Global, unit: &Unit, next: &mut u32) -> Result<FileTree<Counted>, FileFault>
     requires { next.old < 2 ^ 30 }
-    ensures { OnOk result (next.new < 2 ^ 30) }
+    ensures next { OnOk result (next.new < 2 ^ 30) }
+    ensures none { IfErr result IsNoExpansion }
 {
     if file_nodes(unit) >= (MOST_NODES - *next) as u64 {
         return Err(FileFault::TooManyNodes);
