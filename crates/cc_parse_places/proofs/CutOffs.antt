@@ -51,11 +51,15 @@ cut_off_begun d tokens c =
     let s = spelled_reads i d tokens [] c.orderly c.shallow c.spelled in
     record { cut = first_cut (outlines.file c.tree) c.there d tokens [] (subst (Reads i d tokens) (no_more s.rest s.others) s.reads) }
 
-not_at_a_token : (d : ℕ) (tokens : List Token) (t : Token) (rest : List Token) → reading d tokens ≡ Err (t ∷ rest) → left (reading d tokens) ≡ [] → ⊥
+pub not_at_a_token : (d : ℕ) (tokens : List Token) (t : Token) (rest : List Token) → reading d tokens ≡ Err (t ∷ rest) → left (reading d tokens) ≡ [] → ⊥
 not_at_a_token d tokens t rest e s =
     let is : left (reading d tokens) ≡ t ∷ rest = ap (λ (y : Outcome (List (ExternalTree Spot))). left y) e in
     let no : t ∷ rest ≡ [] = sym is ∙ s in
     cc
+
+-- A cut-off file is read to its end.
+pub cut_off_is_read : (d : ℕ) (tokens : List Token) → CutOff d tokens → left (reading d tokens) ≡ []
+cut_off_is_read d tokens c = file_spent d tokens c.tree (cut_off_begun d tokens c)
 
 -- No cut-off file has the refused token as its last.
 pub no_cut_off_file_begins_so : (d : ℕ) (tokens : List Token) (t : Token) (rest : List Token) → reading d tokens ≡ Err (t ∷ rest) → CutOff d (take (length tokens - length rest) tokens) → ⊥

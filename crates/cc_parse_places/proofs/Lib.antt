@@ -31,3 +31,4 @@ pub mod SpentClauses
 pub mod SpentStatements
 pub mod SpentFiles
 pub mod CutOffs
+pub mod Beginnings

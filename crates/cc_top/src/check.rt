@@ -2,6 +2,7 @@
 //
 // Each step that reads the shelf says what those of `list` say (the module `steps`).
 ghost use Rattle.std.specs.Prelude.{◌≡◌, ◌≢◌, ◌≤◌, All, IfErr, IfOk, IfSome, length, string_bytes};
+ghost use Rattle.cc_front.specs.Faults.{IsCaused, IsToldIn};
 ghost use Rattle.cc_project.specs.Outcome.{IsFault};
 ghost use Rattle.cc_project.specs.WellMade.{file_names_of};
 ghost use Rattle.cc_top.specs.Answer.{AfterFiles, OfCheck, OfChecked, counts_line};
@@ -156,6 +157,28 @@ fn counts(
     )
 }
 
+// How many functions and static objects the program of files that are read defines.
+fn numbers<S: Shelf>(
+    alloc: Global,
+    shelf: &mut S,
+    project: &Project,
+    files: &List<ByteList>,
+) -> Result<(u32, u32), FrontFault>
+    requires few { length files.now ≤ 64 }
+    requires short { All IsShort files.now }
+    ensures keeps { S.files shelf.new ≡ S.files shelf.old }
+    ensures none_falls { NoneFalls (counts_of (S.faults shelf.old) (S.misses shelf.old) (S.longs shelf.old))
+        (counts_of (S.faults shelf.new) (S.misses shelf.new) (S.longs shelf.new)) }
+    ensures caused { IfErr result (IsCaused (counts_of (S.faults shelf.old) (S.misses shelf.old) (S.longs shelf.old))
+        (counts_of (S.faults shelf.new) (S.misses shelf.new) (S.longs shelf.new))) }
+    ensures told { IfSome (S.files shelf.old) (λ held. IfErr result (IsToldIn held files.now)) }
+{
+    match front(alloc, shelf, project, files) {
+        Ok(built) => Ok((built.defined_functions(), built.static_objects())),
+        Err(fault) => Err(fault),
+    }
+}
+
 // Checks files that are read.
 fn files_checked<S: Shelf>(
     alloc: Global,
@@ -175,12 +198,8 @@ fn files_checked<S: Shelf>(
     ensures names { IfSome (S.files shelf.old) (λ held. IfErr result
         (FaultNames (IsIncludedIn held files.now))) }
 {
-    match front(alloc, shelf, project, files) {
-        Ok(built) => {
-            let functions = built.defined_functions();
-            let objects = built.static_objects();
-            Ok(counts(alloc, project, functions, objects)?.into_bytes())
-        }
+    match numbers(alloc, shelf, project, files) {
+        Ok((functions, objects)) => Ok(counts(alloc, project, functions, objects)?.into_bytes()),
         Err(fault) => Err(of_front(alloc, project, fault)),
     }
 }

@@ -1,0 +1,7 @@
+use Rattle.std.proofs.Common.{◌≡◌}
+use Rattle.std.specs.Prelude.{string_bytes}
+use Rattle.cc_gen.specs.Generated as spec
+use Rattle.cc_gen.proofs.texts.entries_text.Given as goal
+
+abbrev pub invariant-loop-j : goal.invariant-loop-j
+invariant-loop-j l = string_bytes l.text ≡ spec.entries_text l.j

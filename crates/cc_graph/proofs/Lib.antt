@@ -1,0 +1,4 @@
+pub mod Gains
+pub mod Lowering
+pub mod PointNames
+pub mod Ordering

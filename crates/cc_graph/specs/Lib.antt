@@ -1,0 +1,10 @@
+pub mod Evaluated
+pub mod Points
+pub mod Scopes
+pub mod Parts
+pub mod Succession
+pub mod Order
+pub mod Linking
+pub mod Limit
+pub mod Graphs
+pub mod Across

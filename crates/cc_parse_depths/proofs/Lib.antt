@@ -1,0 +1,9 @@
+pub mod Deeper
+pub mod DeeperLists
+pub mod DeeperExpressions
+pub mod Openings
+pub mod DeeperDeclarators
+pub mod FirstDeclarators
+pub mod DeeperSpecifiers
+pub mod DeeperFiles
+pub mod Told

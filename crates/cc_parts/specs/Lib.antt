@@ -1,0 +1,4 @@
+pub mod TypeParts
+pub mod Putting
+pub mod PartTables
+pub mod Objects

@@ -1,0 +1,10 @@
+pub mod Last
+pub mod Callers
+pub mod Exact
+pub mod Follow
+pub mod Stack
+pub mod Means
+pub mod Along
+pub mod Drops
+pub mod Once
+pub mod Steps

@@ -1,0 +1,9 @@
+pub mod Dropping
+pub mod Exercised
+pub mod Gives
+pub mod Kept
+pub mod Laws
+pub mod Orderly
+pub mod Past
+pub mod Roles
+pub mod Watching

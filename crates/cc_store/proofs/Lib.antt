@@ -1,0 +1,4 @@
+pub mod Aboves
+pub mod Cells
+pub mod Layouts
+pub mod Removes
