@@ -1,4 +1,7 @@
 // Declarators in blocks.
+ghost use Rattle.std.specs.Prelude.{◌≡◌, option_map, IfOk, OnOk};
+ghost use Rattle.cc_tree.specs.Views.{view_init, view_value};
+ghost use Rattle.cc_check.specs.Inners as spec;
 
 use crate::storage::{Judged, Region, check_object, form, judged_declarator, word_of};
 use crate::values::{check_given, completed_type, given, lacks_length};
@@ -17,7 +20,9 @@ fn inner_declared<'a>(
     note: Counted,
     form: Form,
     kind: Option<TypeId>,
-) -> Declared {
+) -> Declared
+    ensures { result ≡ spec.inner_declared note form kind checker.now }
+{
     Declared {
         form,
         linkage: Linkage::Without,
@@ -29,13 +34,17 @@ fn inner_declared<'a>(
 }
 
 // C24 of a function in a block.
-fn check_function<'a>(checker: &mut Checker<'a>, note: Counted, form: Form, formed: Formed) {
+fn check_function<'a>(checker: &mut Checker<'a>, note: Counted, form: Form, formed: Formed)
+    ensures { checker.new ≡ spec.function_checked note form formed checker.old }
+{
     let is_broken = formed.is_judged && matches!(form, Form::Function);
     checker.offend_if(is_broken, note, rule::STORAGE_CLASS);
 }
 
 // Completes the type of what is declared.
-fn complete<'a>(checker: &mut Checker<'a>, note: Counted, number: u32, kind: Option<TypeId>) {
+fn complete<'a>(checker: &mut Checker<'a>, note: Counted, number: u32, kind: Option<TypeId>)
+    ensures { checker.new ≡ spec.completed note number kind checker.old }
+{
     match kind {
         Some(kind) => checker.retype(note, number, kind),
         None => {}
@@ -51,7 +60,10 @@ fn finish<'a>(
     formed: Formed,
     may_lack_length: bool,
     v: &Option<Value<Counted>>,
-) -> Result<(), Memory> {
+) -> Result<(), Memory>
+    ensures { OnOk result (checker.new
+        ≡ spec.finished note number form formed may_lack_length (option_map view_value v.now) checker.old) }
+{
     let kind = completed_type(checker, form, formed.kind, v)?;
     let is_judged = formed.is_judged;
     complete(checker, note, number, kind);
@@ -74,7 +86,10 @@ fn begin<'a>(
     form: Form,
     formed: Formed,
     v: &'a Option<Value<Counted>>,
-) -> Result<(u32, bool), Memory> {
+) -> Result<(u32, bool), Memory>
+    ensures { IfOk result (λ r. (checker.new, r)
+        ≡ spec.begun named.entry.note named.entry.name.now form formed (option_map view_value v.now) checker.old) }
+{
     let what = inner_declared(checker, named.note, form, formed.kind);
     let number = checker.declare(alloc, named, formed.is_judged, what)?;
     check_function(checker, named.note, form, formed);
@@ -92,7 +107,10 @@ fn inner_named<'a>(
     formed: Formed,
     may_lack_length: bool,
     v: &'a Option<Value<Counted>>,
-) -> Result<Judged, Memory> {
+) -> Result<Judged, Memory>
+    ensures { IfOk result (λ r. (checker.new, r)
+        ≡ spec.inner_named named.entry.note named.entry.name.now form formed may_lack_length (option_map view_value v.now) checker.old) }
+{
     let (number, is_typed) = begin(alloc, checker, named, form, formed, v)?;
     finish(
         checker,
@@ -114,7 +132,9 @@ pub fn inner_init<'a>(
     region: Region,
     said: Specified,
     i: &'a Init<Counted>,
-) -> Result<Judged, Memory> {
+) -> Result<Judged, Memory>
+    ensures { IfOk result (λ r. (checker.new, r) ≡ spec.inner_init region said (view_init i.now) checker.old) }
+{
     let is_given = i.value.is_some();
     let formed = declarator(alloc, checker, said.kind, is_given, &i.declarator)?;
     let form = form(region, word_of(said), checker.shape_of(formed.kind));

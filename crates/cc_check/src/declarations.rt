@@ -1,4 +1,7 @@
 // Declarations.
+ghost use Rattle.std.specs.Prelude.{◌≡◌, map, IfOk};
+ghost use Rattle.cc_tree.specs.Views.{view_init, view_declaration};
+ghost use Rattle.cc_check.specs.Declarations as spec;
 
 use crate::blocks::inner_init;
 use crate::outer::outer_init;
@@ -17,7 +20,9 @@ fn init<'a>(
     region: Region,
     said: Specified,
     i: &'a Init<Counted>,
-) -> Result<Judged, Memory> {
+) -> Result<Judged, Memory>
+    ensures { IfOk result (λ r. (checker.new, r) ≡ spec.init_walked region said (view_init i.now) checker.old) }
+{
     match region {
         Region::File => outer_init(alloc, checker, said, i),
         Region::Block | Region::Clause => inner_init(alloc, checker, region, said, i),
@@ -32,7 +37,10 @@ fn inits<'a>(
     said: Specified,
     judged: Judged,
     is: &'a [Init<Counted>],
-) -> Result<Judged, Memory> {
+) -> Result<Judged, Memory>
+    ensures { IfOk result (λ r. (checker.new, r)
+        ≡ spec.inits_walked region said (map view_init is.now) judged checker.old) }
+{
     let mut judged = judged;
     for i in is {
         let one = init(alloc, checker, region, said, i)?;
@@ -47,7 +55,9 @@ pub fn declaration<'a>(
     checker: &mut Checker<'a>,
     region: Region,
     d: &'a Declaration<Counted>,
-) -> Result<bool, Memory> {
+) -> Result<bool, Memory>
+    ensures { IfOk result (λ r. (checker.new, r) ≡ spec.declaration_walked region (view_declaration d.now) checker.old) }
+{
     let said = specifiers(alloc, checker, setting(region), d.note, d.specs.as_slice())?;
     check_storage(checker, region, said.storage, d.inits.as_slice());
     let judged = judged_specifiers(said, d.inits.as_slice());

@@ -24,14 +24,18 @@ impl Model for LabelValues {
 
 impl LabelValues {
     /// None. Takes no memory.
-    pub fn new(alloc: Global) -> LabelValues {
+    pub fn new(alloc: Global) -> LabelValues
+        ensures { result ≡ [] }
+    {
         LabelValues {
             values: IndexSet::new(alloc),
         }
     }
 
     /// One more value. Whether it is new.
-    pub fn add(&mut self, value: i128) -> Result<bool, Memory> {
+    pub fn add(&mut self, value: i128) -> Result<bool, Memory>
+        ensures { IfOk result (λ is_new. (self.new, is_new) ≡ spec.value_added self.old value) }
+    {
         let (_, is_new) = self.values.insert_full(value)?;
         Ok(is_new)
     }
@@ -48,7 +52,9 @@ pub struct Labels {
 
 impl Labels {
     /// None. Takes no memory.
-    pub fn new(alloc: Global, kind: Option<IntKind>) -> Labels {
+    pub fn new(alloc: Global, kind: Option<IntKind>) -> Labels
+        ensures { result ≡ spec.no_labels kind }
+    {
         Labels {
             kind,
             values: LabelValues::new(alloc),
@@ -57,7 +63,9 @@ impl Labels {
     }
 
     /// A value of `case` as the switch compares it (C17 6.8.4.2, paragraph 5).
-    pub fn converted(&self, value: i128) -> i128 {
+    pub fn converted(&self, value: i128) -> i128
+        ensures { result ≡ spec.converted self.now value }
+    {
         match self.kind {
             Some(kind) => convert(kind, value),
             None => value,
@@ -65,7 +73,9 @@ impl Labels {
     }
 
     /// A `default`. Whether it is the first.
-    pub fn add_default(&mut self) -> bool {
+    pub fn add_default(&mut self) -> bool
+        ensures { (self.new, result) ≡ spec.default_added self.old }
+    {
         let is_new = !self.has_default;
         self.has_default = true;
         is_new

@@ -1,4 +1,7 @@
 // Declarators outside of functions.
+ghost use Rattle.std.specs.Prelude.{◌≡◌, option_map, IfOk, OnOk};
+ghost use Rattle.cc_tree.specs.Views.{view_init, view_value};
+ghost use Rattle.cc_check.specs.Outers as spec;
 
 use crate::linkage::{composed, linkage, may_repeat, role};
 use crate::storage::{Judged, Region, check_object, form, judged_declarator, word_of};
@@ -12,7 +15,9 @@ use cc_tree_notes::Counted;
 use cc_types::TypeId;
 use std::alloc::Global;
 
-fn linkage_of(declared: Option<Declared>) -> Option<Linkage> {
+fn linkage_of(declared: Option<Declared>) -> Option<Linkage>
+    ensures { result ≡ spec.linkage_of declared }
+{
     match declared {
         Some(declared) => Some(declared.linkage),
         None => None,
@@ -27,7 +32,9 @@ pub fn outer_declared<'a>(
     form: Form,
     kind: Option<TypeId>,
     is_defined: bool,
-) -> Declared {
+) -> Declared
+    ensures { result ≡ spec.outer_declared named.entry.note named.entry.name.now storage form kind is_defined checker.now }
+{
     let earlier = checker.declared(checker.here(named.name));
     Declared {
         form,
@@ -40,7 +47,9 @@ pub fn outer_declared<'a>(
 }
 
 // An earlier declaration with one declarator more.
-fn joined<'a>(checker: &Checker<'a>, earlier: Declared, later: Declared) -> Declared {
+fn joined<'a>(checker: &Checker<'a>, earlier: Declared, later: Declared) -> Declared
+    ensures { result ≡ spec.joined checker.now earlier later }
+{
     Declared {
         form: earlier.form,
         linkage: earlier.linkage,
@@ -59,7 +68,9 @@ fn declare_again<'a>(
     number: u32,
     earlier: Declared,
     later: Declared,
-) {
+)
+    ensures { checker.new ≡ spec.declared_twice named.entry.note is_judged number earlier later checker.old }
+{
     if may_repeat(&checker.symbols.types, earlier, later) {
         let both = joined(checker, earlier, later);
         checker.declare_again(named, number, both, later.kind);
@@ -76,7 +87,10 @@ pub fn declare_linked<'a>(
     named: Named<'a>,
     is_judged: bool,
     what: Declared,
-) -> Result<u32, Memory> {
+) -> Result<u32, Memory>
+    ensures { IfOk result (λ k. (checker.new, k)
+        ≡ spec.declared_linked named.entry.note named.entry.name.now is_judged what checker.old) }
+{
     let here = checker.here(named.name);
     match (here, checker.declared(here)) {
         (Some(number), Some(earlier)) => {
@@ -94,7 +108,9 @@ pub fn keep_outer<'a>(
     number: u32,
     what: Declared,
     role: Role,
-) -> Result<(), Memory> {
+) -> Result<(), Memory>
+    ensures { OnOk result (checker.new ≡ spec.outer_kept note number what role checker.old) }
+{
     match what.kind {
         Some(kind) => checker.outers.push(Outer {
             declaration: number,
@@ -118,7 +134,9 @@ fn settle_type<'a>(
     number: u32,
     earlier: Option<TypeId>,
     kind: TypeId,
-) {
+)
+    ensures { checker.new ≡ spec.type_settled note is_judged number earlier kind checker.old }
+{
     match earlier {
         Some(earlier) => {
             if checker.symbols.types.compatible(earlier, kind) {
@@ -132,7 +150,9 @@ fn settle_type<'a>(
     }
 }
 
-fn settle<'a>(checker: &mut Checker<'a>, note: Counted, formed: Formed, number: u32) {
+fn settle<'a>(checker: &mut Checker<'a>, note: Counted, formed: Formed, number: u32)
+    ensures { checker.new ≡ spec.settled note formed number checker.old }
+{
     match (formed.kind, checker.declared(Some(number))) {
         (Some(kind), Some(declared)) => {
             settle_type(checker, note, formed.is_judged, number, declared.kind, kind)
@@ -141,7 +161,9 @@ fn settle<'a>(checker: &mut Checker<'a>, note: Counted, formed: Formed, number: 
     }
 }
 
-fn with_kind(what: Declared, kind: Option<TypeId>) -> Declared {
+fn with_kind(what: Declared, kind: Option<TypeId>) -> Declared
+    ensures { result ≡ spec.with_kind what kind }
+{
     Declared {
         form: what.form,
         linkage: what.linkage,
@@ -160,7 +182,9 @@ fn check_whole<'a>(
     form: Form,
     whole: Formed,
     v: &Option<Value<Counted>>,
-) {
+)
+    ensures { checker.new ≡ spec.whole_checked note number form whole (option_map view_value v.now) checker.old }
+{
     settle(checker, note, whole, number);
     check_object(checker, note, form, whole, true);
     check_given(checker, form, whole.kind, v);
@@ -175,7 +199,10 @@ fn finish<'a>(
     role: Role,
     is_judged: bool,
     v: &Option<Value<Counted>>,
-) -> Result<(), Memory> {
+) -> Result<(), Memory>
+    ensures { OnOk result (checker.new
+        ≡ spec.finished note number what role is_judged (option_map view_value v.now) checker.old) }
+{
     let kind = completed_type(checker, what.form, what.kind, v)?;
     check_whole(
         checker,
@@ -196,7 +223,10 @@ fn begin<'a>(
     what: Declared,
     formed: Formed,
     v: &'a Option<Value<Counted>>,
-) -> Result<(u32, bool), Memory> {
+) -> Result<(u32, bool), Memory>
+    ensures { IfOk result (λ r. (checker.new, r)
+        ≡ spec.begun named.entry.note named.entry.name.now what formed (option_map view_value v.now) checker.old) }
+{
     let number = declare_linked(alloc, checker, named, formed.is_judged, what)?;
     check_object(checker, named.note, what.form, formed, true);
     let is_typed = given(alloc, checker, v)?;
@@ -211,7 +241,10 @@ fn outer_linked<'a>(
     storage: Option<SpecWord>,
     formed: Formed,
     v: &'a Option<Value<Counted>>,
-) -> Result<Judged, Memory> {
+) -> Result<Judged, Memory>
+    ensures { IfOk result (λ r. (checker.new, r)
+        ≡ spec.outer_linked named.entry.note named.entry.name.now storage formed (option_map view_value v.now) checker.old) }
+{
     let form = form(Region::File, storage, checker.shape_of(formed.kind));
     let what = outer_declared(checker, named, storage, form, formed.kind, v.is_some());
     let (number, is_typed) = begin(alloc, checker, named, what, formed, v)?;
@@ -221,7 +254,9 @@ fn outer_linked<'a>(
 }
 
 // What a declarator of a typedef name declares.
-fn typedef_declared<'a>(checker: &Checker<'a>, note: Counted, kind: Option<TypeId>) -> Declared {
+fn typedef_declared<'a>(checker: &Checker<'a>, note: Counted, kind: Option<TypeId>) -> Declared
+    ensures { result ≡ spec.typedef_declared note kind checker.now }
+{
     Declared {
         form: Form::Typedef,
         linkage: Linkage::Without,
@@ -239,7 +274,10 @@ fn outer_typedef<'a>(
     named: Named<'a>,
     formed: Formed,
     v: &'a Option<Value<Counted>>,
-) -> Result<Judged, Memory> {
+) -> Result<Judged, Memory>
+    ensures { IfOk result (λ r. (checker.new, r)
+        ≡ spec.outer_typedef named.entry.note named.entry.name.now formed (option_map view_value v.now) checker.old) }
+{
     let what = typedef_declared(checker, named.note, formed.kind);
     let number = checker.declare(alloc, named, formed.is_judged, what)?;
     keep_outer(checker, named.note, number, what, Role::Declares)?;
@@ -254,7 +292,10 @@ fn outer_named<'a>(
     storage: Option<SpecWord>,
     formed: Formed,
     v: &'a Option<Value<Counted>>,
-) -> Result<Judged, Memory> {
+) -> Result<Judged, Memory>
+    ensures { IfOk result (λ r. (checker.new, r)
+        ≡ spec.outer_named named.entry.note named.entry.name.now storage formed (option_map view_value v.now) checker.old) }
+{
     match storage {
         Some(SpecWord::Typedef) => outer_typedef(alloc, checker, named, formed, v),
         _ => outer_linked(alloc, checker, named, storage, formed, v),
@@ -267,7 +308,9 @@ pub fn outer_init<'a>(
     checker: &mut Checker<'a>,
     said: Specified,
     i: &'a Init<Counted>,
-) -> Result<Judged, Memory> {
+) -> Result<Judged, Memory>
+    ensures { IfOk result (λ r. (checker.new, r) ≡ spec.outer_init said (view_init i.now) checker.old) }
+{
     let formed = declarator(alloc, checker, said.kind, true, &i.declarator)?;
     match name_of(&i.declarator) {
         Some(named) => outer_named(alloc, checker, named, word_of(said), formed, &i.value),

@@ -1,4 +1,7 @@
 // Statements.
+ghost use Rattle.std.specs.Prelude.{◌≡◌, option_map, IfOk, OnOk};
+ghost use Rattle.cc_tree.specs.Views.{view, view_start, view_declaration, view_stmt, view_block, view_item, items_of};
+ghost use Rattle.cc_check.specs.Statements as spec;
 
 use crate::declarations::declaration;
 use crate::labels::Labels;
@@ -35,7 +38,9 @@ fn condition<'a>(
     alloc: Global,
     checker: &mut Checker<'a>,
     e: &'a Expr<Counted>,
-) -> Result<(), Memory> {
+) -> Result<(), Memory>
+    ensures { OnOk result (checker.new ≡ spec.condition_walked (view e.now) checker.old) }
+{
     let kind = expression(alloc, checker, e)?;
     check_scalar(&checker.symbols, &mut checker.found, e, kind);
     Ok(())
@@ -46,7 +51,9 @@ fn maybe_condition<'a>(
     alloc: Global,
     checker: &mut Checker<'a>,
     e: &'a Option<Expr<Counted>>,
-) -> Result<(), Memory> {
+) -> Result<(), Memory>
+    ensures { OnOk result (checker.new ≡ spec.maybe_condition (option_map view e.now) checker.old) }
+{
     match e {
         Some(e) => condition(alloc, checker, e),
         None => Ok(()),
@@ -54,7 +61,9 @@ fn maybe_condition<'a>(
 }
 
 // An expression whose type isn't asked.
-fn plain<'a>(alloc: Global, checker: &mut Checker<'a>, e: &'a Expr<Counted>) -> Result<(), Memory> {
+fn plain<'a>(alloc: Global, checker: &mut Checker<'a>, e: &'a Expr<Counted>) -> Result<(), Memory>
+    ensures { OnOk result (checker.new ≡ spec.plain_walked (view e.now) checker.old) }
+{
     expression(alloc, checker, e)?;
     Ok(())
 }
@@ -64,7 +73,9 @@ fn maybe_plain<'a>(
     alloc: Global,
     checker: &mut Checker<'a>,
     e: &'a Option<Expr<Counted>>,
-) -> Result<(), Memory> {
+) -> Result<(), Memory>
+    ensures { OnOk result (checker.new ≡ spec.maybe_plain (option_map view e.now) checker.old) }
+{
     match e {
         Some(e) => plain(alloc, checker, e),
         None => Ok(()),
@@ -77,7 +88,9 @@ pub fn placed<'a>(
     checker: &mut Checker<'a>,
     region: Region,
     d: &'a Declaration<Counted>,
-) -> Result<(), Memory> {
+) -> Result<(), Memory>
+    ensures { OnOk result (checker.new ≡ spec.placed region (view_declaration d.now) checker.old) }
+{
     declaration(alloc, checker, region, d)?;
     Ok(())
 }
@@ -87,7 +100,9 @@ fn misplaced<'a>(
     alloc: Global,
     checker: &mut Checker<'a>,
     d: &'a Declaration<Counted>,
-) -> Result<(), Memory> {
+) -> Result<(), Memory>
+    ensures { OnOk result (checker.new ≡ spec.misplaced (view_declaration d.now) checker.old) }
+{
     let is_typed = declaration(alloc, checker, Region::Block, d)?;
     checker.offend_if(is_typed, d.note, rule::LABEL_PLACE);
     Ok(())
@@ -98,7 +113,9 @@ fn start<'a>(
     alloc: Global,
     checker: &mut Checker<'a>,
     s: &'a ForStart<Counted>,
-) -> Result<(), Memory> {
+) -> Result<(), Memory>
+    ensures { OnOk result (checker.new ≡ spec.start_walked (view_start s.now) checker.old) }
+{
     match s {
         ForStart::Decl(d) => placed(alloc, checker, Region::Clause, d),
         ForStart::Expr(e) => plain(alloc, checker, e),
@@ -106,7 +123,9 @@ fn start<'a>(
     }
 }
 
-fn is_void(shape: Shape) -> bool {
+fn is_void(shape: Shape) -> bool
+    ensures { result ≡ spec.is_void shape }
+{
     matches!(shape, Shape::Void(_))
 }
 
@@ -117,7 +136,9 @@ fn check_value<'a>(
     n: Counted,
     e: &Expr<Counted>,
     kind: Option<ExprType>,
-) {
+)
+    ensures { checker.new ≡ spec.value_returned target n (view e.now) kind checker.old }
+{
     if is_void(target) {
         checker.offend_if(kind.is_some(), n, rule::RETURN_VALUE);
     } else {
@@ -133,7 +154,9 @@ fn check_returned<'a>(
     n: Counted,
     e: &Expr<Counted>,
     kind: Option<ExprType>,
-) {
+)
+    ensures { checker.new ≡ spec.returned_checked returned n (view e.now) kind checker.old }
+{
     match checker.shape_of(returned) {
         Some(target) => check_value(checker, target, n, e, kind),
         None => {}
@@ -141,7 +164,9 @@ fn check_returned<'a>(
 }
 
 // C31 of a `return` without a value.
-fn check_no_value<'a>(checker: &mut Checker<'a>, returned: Option<TypeId>, n: Counted) {
+fn check_no_value<'a>(checker: &mut Checker<'a>, returned: Option<TypeId>, n: Counted)
+    ensures { checker.new ≡ spec.no_value_checked returned n checker.old }
+{
     match checker.shape_of(returned) {
         Some(target) => checker.offend_if(!is_void(target), n, rule::RETURN_VALUE),
         None => {}
@@ -155,7 +180,9 @@ fn returning<'a>(
     returned: Option<TypeId>,
     n: Counted,
     e: &'a Expr<Counted>,
-) -> Result<(), Memory> {
+) -> Result<(), Memory>
+    ensures { OnOk result (checker.new ≡ spec.returning returned n (view e.now) checker.old) }
+{
     let kind = expression(alloc, checker, e)?;
     check_returned(checker, returned, n, e, kind);
     Ok(())
@@ -168,7 +195,9 @@ fn leaving<'a>(
     returned: Option<TypeId>,
     n: Counted,
     e: &'a Option<Expr<Counted>>,
-) -> Result<(), Memory> {
+) -> Result<(), Memory>
+    ensures { OnOk result (checker.new ≡ spec.leaving returned n (option_map view e.now) checker.old) }
+{
     match e {
         Some(e) => returning(alloc, checker, returned, n, e),
         None => {
@@ -179,7 +208,9 @@ fn leaving<'a>(
 }
 
 // The promoted kind of what a switch asks.
-fn promoted<'a>(checker: &Checker<'a>, kind: Option<ExprType>) -> Option<IntKind> {
+fn promoted<'a>(checker: &Checker<'a>, kind: Option<ExprType>) -> Option<IntKind>
+    ensures { result ≡ spec.promoted checker.now.symbols.types kind }
+{
     match kind {
         Some(kind) => checker.symbols.types.promoted_kind(kind),
         None => None,
@@ -192,7 +223,9 @@ fn asked<'a>(
     checker: &mut Checker<'a>,
     n: Counted,
     e: &'a Expr<Counted>,
-) -> Result<Labels, Memory> {
+) -> Result<Labels, Memory>
+    ensures { IfOk result (λ l. (checker.new, l) ≡ spec.asked n (view e.now) checker.old) }
+{
     let kind = expression(alloc, checker, e)?;
     check_integer(&checker.symbols, &mut checker.found, n.spot, kind);
     Ok(Labels::new(alloc, promoted(checker, kind)))
@@ -204,7 +237,9 @@ fn compared<'a>(
     labels: &mut Labels,
     n: Counted,
     value: i128,
-) -> Result<(), Memory> {
+) -> Result<(), Memory>
+    ensures { OnOk result ((walk.new, labels.new) ≡ spec.compared n value (walk.old, labels.old)) }
+{
     let is_new = labels.values.add(value)?;
     walk.checker.offend_if(!is_new, n, rule::NEW_LABEL);
     walk.cases.push(CaseValue {
@@ -219,7 +254,9 @@ fn labelled<'a>(
     labels: &mut Labels,
     n: Counted,
     value: ConstantValue,
-) -> Result<(), Memory> {
+) -> Result<(), Memory>
+    ensures { OnOk result ((walk.new, labels.new) ≡ spec.labelled n value (walk.old, labels.old)) }
+{
     match value {
         ConstantValue::Is(value) => compared(walk, labels, n, labels.converted(value)),
         _ => Ok(()),
@@ -233,7 +270,9 @@ fn case<'a>(
     labels: &mut Labels,
     n: Counted,
     e: &'a Expr<Counted>,
-) -> Result<(), Memory> {
+) -> Result<(), Memory>
+    ensures { OnOk result ((walk.new, labels.new) ≡ spec.case_walked n (view e.now) (walk.old, labels.old)) }
+{
     let value = constant_of(alloc, &mut walk.checker, e)?;
     labelled(walk, labels, n, value)
 }
@@ -243,13 +282,17 @@ fn stray_case<'a>(
     alloc: Global,
     checker: &mut Checker<'a>,
     e: &'a Expr<Counted>,
-) -> Result<(), Memory> {
+) -> Result<(), Memory>
+    ensures { OnOk result (checker.new ≡ spec.stray_case (view e.now) checker.old) }
+{
     constant_of(alloc, checker, e)?;
     Ok(())
 }
 
 // A `default` of a switch's own block: C30.
-fn default<'a>(walk: &mut Walk<'a>, labels: &mut Labels, n: Counted) {
+fn default<'a>(walk: &mut Walk<'a>, labels: &mut Labels, n: Counted)
+    ensures { (walk.new, labels.new) ≡ spec.default_walked n (walk.old, labels.old) }
+{
     let is_new = labels.add_default();
     walk.checker.offend_if(!is_new, n, rule::NEW_LABEL);
 }
@@ -261,7 +304,9 @@ pub fn stmt<'a>(
     walk: &mut Walk<'a>,
     returned: Option<TypeId>,
     s: &'a Stmt<Counted>,
-) -> Result<(), Memory> {
+) -> Result<(), Memory>
+    ensures { OnOk result (walk.new ≡ spec.stmt_walked returned (view_stmt s.now) walk.old) }
+{
     match s {
         Stmt::Block(b) => block(alloc, walk, returned, b),
         Stmt::Plain(_, e) => plain(alloc, &mut walk.checker, e),
@@ -307,7 +352,9 @@ fn block<'a>(
     walk: &mut Walk<'a>,
     returned: Option<TypeId>,
     b: &'a Block<Counted>,
-) -> Result<(), Memory> {
+) -> Result<(), Memory>
+    ensures { OnOk result (walk.new ≡ spec.block_walked returned (view_block b.now) walk.old) }
+{
     walk.checker.enter()?;
     items(alloc, walk, returned, b.items.as_slice())?;
     walk.checker.leave();
@@ -321,7 +368,9 @@ fn items<'a>(
     walk: &mut Walk<'a>,
     returned: Option<TypeId>,
     is: &'a [Item<Counted>],
-) -> Result<(), Memory> {
+) -> Result<(), Memory>
+    ensures { OnOk result (walk.new ≡ spec.items_walked returned (items_of is.now) walk.old) }
+{
     for i in is {
         item(alloc, walk, returned, i)?;
     }
@@ -334,7 +383,9 @@ pub fn body<'a>(
     walk: &mut Walk<'a>,
     returned: Option<TypeId>,
     b: &'a Block<Counted>,
-) -> Result<(), Memory> {
+) -> Result<(), Memory>
+    ensures { OnOk result (walk.new ≡ spec.inside returned (view_block b.now) walk.old) }
+{
     items(alloc, walk, returned, b.items.as_slice())
 }
 
@@ -344,7 +395,9 @@ fn item<'a>(
     walk: &mut Walk<'a>,
     returned: Option<TypeId>,
     i: &'a Item<Counted>,
-) -> Result<(), Memory> {
+) -> Result<(), Memory>
+    ensures { OnOk result (walk.new ≡ spec.item_walked returned (view_item i.now) walk.old) }
+{
     match i {
         Item::Decl(d) => placed(alloc, &mut walk.checker, Region::Block, d),
         Item::Case(_, e) => stray_case(alloc, &mut walk.checker, e),
@@ -361,7 +414,9 @@ fn switch_block<'a>(
     returned: Option<TypeId>,
     labels: &mut Labels,
     b: &'a Block<Counted>,
-) -> Result<(), Memory> {
+) -> Result<(), Memory>
+    ensures { OnOk result (walk.new ≡ spec.switch_walked returned (view_block b.now) walk.old labels.old) }
+{
     walk.checker.enter()?;
     switch_items(alloc, walk, returned, labels, b.items.as_slice())?;
     walk.checker.leave();
@@ -375,7 +430,10 @@ fn switch_items<'a>(
     returned: Option<TypeId>,
     labels: &mut Labels,
     is: &'a [Item<Counted>],
-) -> Result<(), Memory> {
+) -> Result<(), Memory>
+    ensures { OnOk result ((walk.new, labels.new)
+        ≡ spec.switch_items returned (items_of is.now) (walk.old, labels.old)) }
+{
     for i in is {
         switch_item(alloc, walk, returned, labels, i)?;
     }
@@ -389,7 +447,10 @@ fn switch_item<'a>(
     returned: Option<TypeId>,
     labels: &mut Labels,
     i: &'a Item<Counted>,
-) -> Result<(), Memory> {
+) -> Result<(), Memory>
+    ensures { OnOk result ((walk.new, labels.new)
+        ≡ spec.switch_item returned (view_item i.now) (walk.old, labels.old)) }
+{
     match i {
         Item::Decl(d) => misplaced(alloc, &mut walk.checker, d),
         Item::Case(n, e) => case(alloc, walk, labels, *n, e),

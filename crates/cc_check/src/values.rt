@@ -1,4 +1,7 @@
 // Initialisers: their expressions, and what they tell of an array.
+ghost use Rattle.std.specs.Prelude.{◌≡◌, option_map, IfOk, OnOk};
+ghost use Rattle.cc_tree.specs.Views.{view_declarator, view_value, values_of};
+ghost use Rattle.cc_check.specs.Giving as spec;
 
 use cc_base::Memory;
 use cc_check_values::{check_value, is_typed, told_length};
@@ -12,11 +15,9 @@ use std::alloc::Global;
 
 // Takes down the names and types of an initialiser's expressions.
 #[cycle(value)]
-fn value<'a>(
-    alloc: Global,
-    checker: &mut Checker<'a>,
-    v: &'a Value<Counted>,
-) -> Result<(), Memory> {
+fn value<'a>(alloc: Global, checker: &mut Checker<'a>, v: &'a Value<Counted>) -> Result<(), Memory>
+    ensures { OnOk result (checker.new ≡ spec.value_walked (view_value v.now) checker.old) }
+{
     match v {
         Value::Expr(e) => {
             expression(alloc, checker, e)?;
@@ -32,7 +33,9 @@ fn values<'a>(
     alloc: Global,
     checker: &mut Checker<'a>,
     vs: &'a [Value<Counted>],
-) -> Result<(), Memory> {
+) -> Result<(), Memory>
+    ensures { OnOk result (checker.new ≡ spec.values_walked (values_of vs.now) checker.old) }
+{
     for v in vs {
         value(alloc, checker, v)?;
     }
@@ -44,7 +47,9 @@ pub fn given<'a>(
     alloc: Global,
     checker: &mut Checker<'a>,
     v: &'a Option<Value<Counted>>,
-) -> Result<bool, Memory> {
+) -> Result<bool, Memory>
+    ensures { IfOk result (λ r. (checker.new, r) ≡ spec.given (option_map view_value v.now) checker.old) }
+{
     match v {
         Some(v) => {
             value(alloc, checker, v)?;
@@ -55,7 +60,9 @@ pub fn given<'a>(
 }
 
 // An array's type with this length.
-fn with_length<'a>(checker: &mut Checker<'a>, kind: TypeId, n: u64) -> Result<TypeId, Memory> {
+fn with_length<'a>(checker: &mut Checker<'a>, kind: TypeId, n: u64) -> Result<TypeId, Memory>
+    ensures { IfOk result (λ r. (checker.new, r) ≡ spec.with_length kind n checker.old) }
+{
     match checker.symbols.types.shape(kind) {
         Shape::Array(is_const, element, _) => {
             let shape = Shape::Array(is_const, element, Some(n));
@@ -71,7 +78,9 @@ fn completed<'a>(
     checker: &mut Checker<'a>,
     kind: TypeId,
     v: &Value<Counted>,
-) -> Result<TypeId, Memory> {
+) -> Result<TypeId, Memory>
+    ensures { IfOk result (λ r. (checker.new, r) ≡ spec.completed kind (view_value v.now) checker.old) }
+{
     let shape = checker.symbols.types.shape(kind);
     match told_length(&checker.symbols, shape, v) {
         Some(n) => with_length(checker, kind, n),
@@ -85,7 +94,10 @@ pub fn completed_type<'a>(
     form: Form,
     kind: Option<TypeId>,
     v: &Option<Value<Counted>>,
-) -> Result<Option<TypeId>, Memory> {
+) -> Result<Option<TypeId>, Memory>
+    ensures { IfOk result (λ r. (checker.new, r)
+        ≡ spec.completed_type form kind (option_map view_value v.now) checker.old) }
+{
     match (form, kind, v) {
         (Form::Object(_), Some(kind), Some(v)) => {
             let whole = completed(checker, kind, v)?;
@@ -96,7 +108,9 @@ pub fn completed_type<'a>(
 }
 
 // The life of what an initialiser is for, if it is for an object or a function.
-fn life_of(form: Form) -> Option<Life> {
+fn life_of(form: Form) -> Option<Life>
+    ensures { result ≡ spec.life_of form }
+{
     match form {
         Form::Object(life) => Some(life),
         Form::Function => Some(Life::Static),
@@ -111,7 +125,9 @@ pub fn check_given<'a>(
     form: Form,
     kind: Option<TypeId>,
     v: &Option<Value<Counted>>,
-) {
+)
+    ensures { checker.new ≡ spec.given_checked form kind (option_map view_value v.now) checker.old }
+{
     match (life_of(form), checker.shape_of(kind), v) {
         (Some(life), Some(shape), Some(v)) => {
             check_value(&checker.symbols, &mut checker.found, life, shape, v)
@@ -121,7 +137,9 @@ pub fn check_given<'a>(
 }
 
 /// Whether the form of a declarator nearest to its name is an array without a length.
-pub fn lacks_length(d: &Declarator<Counted>) -> bool {
+pub fn lacks_length(d: &Declarator<Counted>) -> bool
+    ensures { result ≡ spec.lacks_length (view_declarator d.now) }
+{
     match d {
         Declarator::Array(_, inner, length) => {
             length.is_none() && is_nearest(inner.get()) || lacks_length(inner.get())

@@ -214,11 +214,11 @@ abbrev mutual
 
 -- what a declarator gives of the type of its specifiers
 abbrev pub declarator : Option TypeId → Bool → DeclTree Counted → Checker → Checker × Formed
-declarator base may_lack d s = formed_of d (shaped d may_lack (based base) s)
+declarator base may_lack_length d s = formed_of d (shaped d may_lack_length (based base) s)
 
 -- an array, by its length
 abbrev pub sized : Counted → ExprOption Counted → Bool → Shaped → Checker → Checker × Shaped
-sized n e may_lack base s = sized_as n may_lack base (optional_constant e s)
+sized n e may_lack_here base s = sized_as n may_lack_here base (optional_constant e s)
 
 -- the types of parameters, whose names are gone after them
 abbrev pub prototype : TypeTrees Counted → Checker → Kinds
@@ -255,12 +255,6 @@ parameter_with n p d s = parameter_as n d p (declarator p.kind true d s)
 -- a type name, by the type of its specifiers
 abbrev pub type_name_with : Bool → Counted → Option TypeId → DeclTree Counted → Checker → Checker
 type_name_with is_before_zero n base d s = type_name_as n d is_before_zero (shaped d false (based base) s)
-
--- an array form, and then those inside it
-abbrev pub array_form : Counted → DeclTree Counted → ExprOption Counted → Bool → Shaped → Checker → Checker × Shaped
-array_form n d e may_lack_length base s =
-    let p = sized_as n (may_lack may_lack_length d) base (optional_constant e s) in
-    shaped d may_lack_length p.1 p.0
 
 -- the type of a full expression
 abbrev pub expression : ExprTree Counted → Checker → Checker × Option ExprType

@@ -1,4 +1,9 @@
 // Specifiers, declarators, members, enumeration constants, type names and expressions: each may lead to each of the others.
+ghost use Rattle.std.specs.Prelude.{◌≡◌, ◌&&◌, true, pos, IfOk, OnOk};
+ghost use Rattle.cc_tree.specs.Views.{view, exprs_of, option_of, view_declarator, declarators_of, view_type, types_of, view_spec, specs_of, view_member, members_of, view_constant, constants_of};
+ghost use Rattle.cc_declare.specs.Members.{no_fields};
+ghost use Rattle.cc_declare.specs.Specifying.{nothing_said};
+ghost use Rattle.cc_declare_cycle.specs.Declaring as spec;
 
 use crate::values::{judged, valued};
 use cc_base::Memory;
@@ -26,7 +31,9 @@ pub fn declarator<'a>(
     base: Option<TypeId>,
     may_lack_length: bool,
     d: &'a Declarator<Counted>,
-) -> Result<Formed, Memory> {
+) -> Result<Formed, Memory>
+    ensures { IfOk result (λ r. (checker.new, r) ≡ spec.declarator base may_lack_length (view_declarator d.now) checker.old) }
+{
     let made = shaped(alloc, checker, Shaped::based(base), may_lack_length, d)?;
     checker.formed(note_of(d), made)
 }
@@ -39,7 +46,9 @@ fn shaped<'a>(
     base: Shaped,
     may_lack_length: bool,
     d: &'a Declarator<Counted>,
-) -> Result<Shaped, Memory> {
+) -> Result<Shaped, Memory>
+    ensures { IfOk result (λ r. (checker.new, r) ≡ spec.shaped (view_declarator d.now) may_lack_length base checker.old) }
+{
     match d {
         Declarator::Name(_, _) => Ok(base),
         Declarator::Nameless => Ok(base),
@@ -48,9 +57,10 @@ fn shaped<'a>(
             shaped(alloc, checker, made, may_lack_length, d.get())
         }
         Declarator::Array(n, d, e) => {
-            let may_lack = may_lack_length && is_nearest(d.get());
-            let made = sized(alloc, checker, *n, e, may_lack, base)?;
-            shaped(alloc, checker, made, may_lack_length, d.get())
+            let inner = d.get();
+            let may_lack_here = may_lack(may_lack_length, inner);
+            let made = sized(alloc, checker, *n, e, may_lack_here, base)?;
+            shaped(alloc, checker, made, may_lack_length, inner)
         }
         Declarator::Func(n, d, ps) => {
             let made = called(alloc, checker, *n, ps.as_slice(), base)?;
@@ -58,6 +68,13 @@ fn shaped<'a>(
         }
         Declarator::Paren(_, d) => shaped(alloc, checker, base, may_lack_length, d.get()),
     }
+}
+
+// Whether an array form that stands round this may lack its length.
+fn may_lack(may_lack_length: bool, d: &Declarator<Counted>) -> bool
+    ensures { result ≡ spec.may_lack may_lack_length (view_declarator d.now) }
+{
+    may_lack_length && is_nearest(d)
 }
 
 // An array, by its length.
@@ -69,7 +86,9 @@ fn sized<'a>(
     e: &'a Option<Boxed<Expr<Counted>>>,
     may_lack: bool,
     base: Shaped,
-) -> Result<Shaped, Memory> {
+) -> Result<Shaped, Memory>
+    ensures { IfOk result (λ r. (checker.new, r) ≡ spec.sized note (option_of e.now) may_lack base checker.old) }
+{
     let length = optional_constant(alloc, checker, e)?;
     checker.array(note, length, may_lack, base)
 }
@@ -82,7 +101,9 @@ fn called<'a>(
     note: Counted,
     ps: &'a [TypeName<Counted>],
     base: Shaped,
-) -> Result<Shaped, Memory> {
+) -> Result<Shaped, Memory>
+    ensures { IfOk result (λ r. (checker.new, r) ≡ spec.called note (types_of ps.now) base checker.old) }
+{
     let kinds = prototype(alloc, checker, ps)?;
     let kinds = checker.listed(alloc, is_lone_unnamed(ps), kinds);
     checker.function(note, kinds, base)
@@ -94,7 +115,9 @@ fn prototype<'a>(
     alloc: Global,
     checker: &mut Checker<'a>,
     ps: &'a [TypeName<Counted>],
-) -> Result<Slots<Option<TypeId>>, Memory> {
+) -> Result<Slots<Option<TypeId>>, Memory>
+    ensures { IfOk result (λ r. (checker.new, r) ≡ spec.prototype (types_of ps.now) checker.old) }
+{
     checker.enter()?;
     let kinds = parameters(alloc, checker, ps)?;
     checker.leave();
@@ -107,7 +130,9 @@ fn parameters<'a>(
     alloc: Global,
     checker: &mut Checker<'a>,
     ps: &'a [TypeName<Counted>],
-) -> Result<Slots<Option<TypeId>>, Memory> {
+) -> Result<Slots<Option<TypeId>>, Memory>
+    ensures { IfOk result (λ r. (checker.new, r) ≡ spec.parameters (types_of ps.now) checker.old) }
+{
     let mut kinds = Slots::new(alloc);
     for p in ps {
         let kind = parameter(alloc, checker, p)?;
@@ -122,7 +147,9 @@ fn parameter<'a>(
     alloc: Global,
     checker: &mut Checker<'a>,
     p: &'a TypeName<Counted>,
-) -> Result<Option<TypeId>, Memory> {
+) -> Result<Option<TypeId>, Memory>
+    ensures { IfOk result (λ r. (checker.new, r) ≡ spec.parameter (view_type p.now) checker.old) }
+{
     let said = specifiers(
         alloc,
         checker,
@@ -130,8 +157,22 @@ fn parameter<'a>(
         p.note,
         p.specs.as_slice(),
     )?;
-    let formed = declarator(alloc, checker, said.kind, true, &p.declarator)?;
-    checker.parameter(alloc, p.note, said, name_of(&p.declarator), formed)
+    parameter_with(alloc, checker, p.note, said, &p.declarator)
+}
+
+// The same, by what its specifiers say.
+#[cycle(declare)]
+fn parameter_with<'a>(
+    alloc: Global,
+    checker: &mut Checker<'a>,
+    note: Counted,
+    said: Specified,
+    d: &'a Declarator<Counted>,
+) -> Result<Option<TypeId>, Memory>
+    ensures { IfOk result (λ r. (checker.new, r) ≡ spec.parameter_with note said (view_declarator d.now) checker.old) }
+{
+    let formed = declarator(alloc, checker, said.kind, true, d)?;
+    checker.parameter(alloc, note, said, name_of(d), formed)
 }
 
 // The type of a type name. One that stands before a zero may be `void *`.
@@ -141,7 +182,9 @@ fn type_name<'a>(
     checker: &mut Checker<'a>,
     is_before_zero: bool,
     t: &'a TypeName<Counted>,
-) -> Result<(), Memory> {
+) -> Result<(), Memory>
+    ensures { OnOk result (checker.new ≡ spec.type_named is_before_zero (view_type t.now) checker.old) }
+{
     let said = specifiers(
         alloc,
         checker,
@@ -149,18 +192,37 @@ fn type_name<'a>(
         t.note,
         t.specs.as_slice(),
     )?;
-    let made = shaped(
+    type_name_with(
         alloc,
         checker,
-        Shaped::based(said.kind),
-        false,
+        is_before_zero,
+        t.note,
+        said.kind,
         &t.declarator,
-    )?;
-    checker.type_name(t.note, note_of(&t.declarator), is_before_zero, made)
+    )
+}
+
+// The same, by the type of its specifiers.
+#[cycle(declare)]
+fn type_name_with<'a>(
+    alloc: Global,
+    checker: &mut Checker<'a>,
+    is_before_zero: bool,
+    note: Counted,
+    base: Option<TypeId>,
+    d: &'a Declarator<Counted>,
+) -> Result<(), Memory>
+    ensures { OnOk result (checker.new
+        ≡ spec.type_name_with is_before_zero note base (view_declarator d.now) checker.old) }
+{
+    let made = shaped(alloc, checker, Shaped::based(base), false, d)?;
+    checker.type_name(note, note_of(d), is_before_zero, made)
 }
 
 // The note of the first specifier; of none, this one.
-fn first_note(note: Counted, specs: &[Spec<Counted>]) -> Counted {
+fn first_note(note: Counted, specs: &[Spec<Counted>]) -> Counted
+    ensures { result ≡ spec.first_note note (specs_of specs.now) }
+{
     match specs {
         [first, ..] => *spec_note(first),
         [] => note,
@@ -176,7 +238,9 @@ pub fn specifiers<'a>(
     setting: Setting,
     note: Counted,
     specs: &'a [Spec<Counted>],
-) -> Result<Specified, Memory> {
+) -> Result<Specified, Memory>
+    ensures { IfOk result (λ r. (checker.new, r) ≡ spec.specifiers setting note (specs_of specs.now) checker.old) }
+{
     let said = all_said(alloc, checker, specs)?;
     checker.specified(setting, first_note(note, specs), said)
 }
@@ -187,7 +251,9 @@ fn all_said<'a>(
     alloc: Global,
     checker: &mut Checker<'a>,
     specs: &'a [Spec<Counted>],
-) -> Result<Said, Memory> {
+) -> Result<Said, Memory>
+    ensures { IfOk result (λ r. (checker.new, r) ≡ spec.said_all (specs_of specs.now) nothing_said checker.old) }
+{
     let mut said = Said::nothing();
     for s in specs {
         said = said_one(alloc, checker, said, s)?;
@@ -202,7 +268,9 @@ fn said_one<'a>(
     checker: &mut Checker<'a>,
     said: Said,
     s: &'a Spec<Counted>,
-) -> Result<Said, Memory> {
+) -> Result<Said, Memory>
+    ensures { IfOk result (λ r. (checker.new, r) ≡ spec.said_one (view_spec s.now) said checker.old) }
+{
     match s {
         Spec::Word(n, w) => Ok(said.word(*n, *w)),
         Spec::Named(_, x) => Ok(checker.alias(said, x.as_str())),
@@ -223,14 +291,18 @@ fn said_one<'a>(
     }
 }
 
-fn has_members(ms: &[Member<Counted>]) -> bool {
+fn has_members(ms: &[Member<Counted>]) -> bool
+    ensures { result ≡ spec.has_members (members_of ms.now) }
+{
     match ms {
         [] => false,
         [_, ..] => true,
     }
 }
 
-fn has_constants(cs: &[Constant<Counted>]) -> bool {
+fn has_constants(cs: &[Constant<Counted>]) -> bool
+    ensures { result ≡ spec.has_constants (constants_of cs.now) }
+{
     match cs {
         [] => false,
         [_, ..] => true,
@@ -245,7 +317,9 @@ fn structure<'a>(
     note: Counted,
     id: Option<StructId>,
     ms: &'a [Member<Counted>],
-) -> Result<Option<StructId>, Memory> {
+) -> Result<Option<StructId>, Memory>
+    ensures { IfOk result (λ r. (checker.new, r) ≡ spec.structure note id (members_of ms.now) checker.old) }
+{
     if has_members(ms) {
         let fields = all_fields(alloc, checker, ms)?;
         checker.struct_with(alloc, note, id, fields)
@@ -260,7 +334,9 @@ fn all_fields<'a>(
     alloc: Global,
     checker: &mut Checker<'a>,
     ms: &'a [Member<Counted>],
-) -> Result<Fields, Memory> {
+) -> Result<Fields, Memory>
+    ensures { IfOk result (λ r. (checker.new, r) ≡ spec.all_fields (members_of ms.now) checker.old) }
+{
     checker.enter_members()?;
     let fields = members(alloc, checker, ms)?;
     checker.leave_members();
@@ -272,7 +348,9 @@ fn members<'a>(
     alloc: Global,
     checker: &mut Checker<'a>,
     ms: &'a [Member<Counted>],
-) -> Result<Fields, Memory> {
+) -> Result<Fields, Memory>
+    ensures { IfOk result (λ r. (checker.new, r) ≡ spec.members (members_of ms.now) no_fields checker.old) }
+{
     let mut fields = Fields::new(alloc);
     for m in ms {
         member(alloc, checker, &mut fields, m)?;
@@ -287,10 +365,35 @@ fn member<'a>(
     checker: &mut Checker<'a>,
     fields: &mut Fields,
     m: &'a Member<Counted>,
-) -> Result<(), Memory> {
+) -> Result<(), Memory>
+    ensures { OnOk result ((checker.new, fields.new) ≡ spec.member (view_member m.now) fields.old checker.old) }
+{
     let said = specifiers(alloc, checker, Setting::Member, m.note, m.specs.as_slice())?;
-    let are_judged = fields_of(alloc, checker, fields, said.kind, m.declarators.as_slice())?;
-    checker.plain_specifiers(m.note, said, are_judged);
+    member_with(
+        alloc,
+        checker,
+        fields,
+        m.note,
+        said,
+        m.declarators.as_slice(),
+    )
+}
+
+// The same, by what their specifiers say.
+#[cycle(declare)]
+fn member_with<'a>(
+    alloc: Global,
+    checker: &mut Checker<'a>,
+    fields: &mut Fields,
+    note: Counted,
+    said: Specified,
+    ds: &'a [Declarator<Counted>],
+) -> Result<(), Memory>
+    ensures { OnOk result ((checker.new, fields.new)
+        ≡ spec.member_with note said (declarators_of ds.now) fields.old checker.old) }
+{
+    let are_judged = fields_of(alloc, checker, fields, said.kind, ds)?;
+    checker.plain_specifiers(note, said, are_judged);
     Ok(())
 }
 
@@ -302,27 +405,39 @@ fn fields_of<'a>(
     fields: &mut Fields,
     base: Option<TypeId>,
     ds: &'a [Declarator<Counted>],
-) -> Result<bool, Memory> {
+) -> Result<bool, Memory>
+    ensures { IfOk result (λ r. (checker.new, (fields.new, r))
+        ≡ spec.fields_of base (declarators_of ds.now) true fields.old checker.old) }
+{
     let mut are_judged = true;
     for d in ds {
-        let is_judged = field(alloc, checker, fields, base, d)?;
-        are_judged = are_judged && is_judged;
+        are_judged = field(alloc, checker, fields, base, are_judged, d)?;
     }
     Ok(are_judged)
 }
 
-// A member; whether it is judged.
+// A member; whether it and those before it are judged.
 #[cycle(declare)]
 fn field<'a>(
     alloc: Global,
     checker: &mut Checker<'a>,
     fields: &mut Fields,
     base: Option<TypeId>,
+    are_judged: bool,
     d: &'a Declarator<Counted>,
-) -> Result<bool, Memory> {
+) -> Result<bool, Memory>
+    ensures { IfOk result (λ r. (checker.new, (fields.new, r))
+        ≡ spec.field base (view_declarator d.now) are_judged fields.old checker.old) }
+{
     let formed = declarator(alloc, checker, base, false, d)?;
     checker.member(alloc, fields, name_of(d), formed)?;
-    Ok(formed.is_judged)
+    Ok(both(are_judged, formed.is_judged))
+}
+
+fn both(a: bool, b: bool) -> bool
+    ensures { result ≡ (a && b) }
+{
+    a && b
 }
 
 // Enumeration constants.
@@ -331,7 +446,9 @@ fn constants<'a>(
     alloc: Global,
     checker: &mut Checker<'a>,
     cs: &'a [Constant<Counted>],
-) -> Result<(), Memory> {
+) -> Result<(), Memory>
+    ensures { OnOk result (checker.new ≡ spec.constants (constants_of cs.now) (pos 0) checker.old) }
+{
     let mut next = 0;
     for c in cs {
         next = enumerator(alloc, checker, next, c)?;
@@ -346,17 +463,35 @@ fn enumerator<'a>(
     checker: &mut Checker<'a>,
     next: i128,
     c: &'a Constant<Counted>,
-) -> Result<i128, Memory> {
+) -> Result<i128, Memory>
+    ensures { IfOk result (λ r. (checker.new, r) ≡ spec.enumerator (view_constant c.now) next checker.old) }
+{
     let value = optional_constant(alloc, checker, &c.value)?;
+    enumerated(alloc, checker, next, value, c)
+}
+
+// The same, by its value.
+fn enumerated<'a>(
+    alloc: Global,
+    checker: &mut Checker<'a>,
+    next: i128,
+    value: ConstantValue,
+    c: &'a Constant<Counted>,
+) -> Result<i128, Memory>
+    ensures { IfOk result (λ r. (checker.new, r) ≡ spec.enumerated_by (view_constant c.now) next value checker.old) }
+{
     let named = Named {
         note: c.note,
         name: c.name.as_str(),
     };
-    checker.enumerator(alloc, named, place_of(c.note, &c.value), next, value)
+    let place = place_of(c.note, &c.value);
+    checker.enumerator(alloc, named, place, next, value)
 }
 
 // Where a constant's value stands: its expression, or its name.
-fn place_of(note: Counted, e: &Option<Boxed<Expr<Counted>>>) -> Counted {
+fn place_of(note: Counted, e: &Option<Boxed<Expr<Counted>>>) -> Counted
+    ensures { result ≡ spec.place_of note (option_of e.now) }
+{
     match e {
         Some(e) => *expr_note(e.get()),
         None => note,
@@ -369,7 +504,9 @@ fn optional_constant<'a>(
     alloc: Global,
     checker: &mut Checker<'a>,
     e: &'a Option<Boxed<Expr<Counted>>>,
-) -> Result<ConstantValue, Memory> {
+) -> Result<ConstantValue, Memory>
+    ensures { IfOk result (λ r. (checker.new, r) ≡ spec.optional_constant (option_of e.now) checker.old) }
+{
     match e {
         Some(e) => constant_of(alloc, checker, e.get()),
         None => Ok(ConstantValue::Missing),
@@ -382,7 +519,9 @@ pub fn constant_of<'a>(
     alloc: Global,
     checker: &mut Checker<'a>,
     e: &'a Expr<Counted>,
-) -> Result<ConstantValue, Memory> {
+) -> Result<ConstantValue, Memory>
+    ensures { IfOk result (λ r. (checker.new, r) ≡ spec.constant_of (view e.now) checker.old) }
+{
     let kind = expression(alloc, checker, e)?;
     Ok(valued(checker, e, kind))
 }
@@ -393,14 +532,18 @@ pub fn expression<'a>(
     alloc: Global,
     checker: &mut Checker<'a>,
     e: &'a Expr<Counted>,
-) -> Result<Option<ExprType>, Memory> {
+) -> Result<Option<ExprType>, Memory>
+    ensures { IfOk result (λ r. (checker.new, r) ≡ spec.expression (view e.now) checker.old) }
+{
     named(alloc, checker, e)?;
     Ok(judged(checker, e))
 }
 
 // Takes down what the names in an expression name, and makes the types of its type names.
 #[cycle(declare)]
-fn named<'a>(alloc: Global, checker: &mut Checker<'a>, e: &'a Expr<Counted>) -> Result<(), Memory> {
+fn named<'a>(alloc: Global, checker: &mut Checker<'a>, e: &'a Expr<Counted>) -> Result<(), Memory>
+    ensures { OnOk result (checker.new ≡ spec.named_in (view e.now) checker.old) }
+{
     match e {
         Expr::Name(n, x) => {
             checker.name(*n, x.as_str());
@@ -452,7 +595,9 @@ fn all_named<'a>(
     alloc: Global,
     checker: &mut Checker<'a>,
     es: &'a [Expr<Counted>],
-) -> Result<(), Memory> {
+) -> Result<(), Memory>
+    ensures { OnOk result (checker.new ≡ spec.all_named (exprs_of es.now) checker.old) }
+{
     for e in es {
         named(alloc, checker, e)?;
     }
