@@ -14,15 +14,15 @@ use Rattle.cc_interp.specs.Tests.{fill_lasting, fill_one}
 use Rattle.cc_interp.proofs.Reach.{go_on_prepend, prepend_on, tells_on, tells_none, behind_is}
 use Rattle.cc_interp.proofs.Compose.{both_stop, then_second}
 
-pub filled_none : (stands : List Event → Type 0) (G : Acts) (m : Machine) → m.outbox ≡ [] → Filled stands stands G 0 G.lasting m.state m
-filled_none stands G m e = record { events = []; told = tells_none stands; leads = refl; empty = e }
+pub filled_none : (stands : List Event → Type 0) (G : Acts) (all : List Lasting) (m : Machine) → m.outbox ≡ [] → Filled stands stands G all 0 all m.state m
+filled_none stands G all m e = record { events = []; told = tells_none stands; leads = refl; empty = e }
 
 -- the object's run, in the order of telling
 pub one_is : (G : Acts) (k : ℕ) (o : Lasting) (before after : List Event) (r : Option Stop) (s s' : State) → before ≡ [] → behind after (done r s') ≡ behind before (fill_one G k o s) → fill_one G k o s ≡ prepend (reverse after) (done r s')
 one_is G k o before after r s s' e h = sym (h ∙ ap (λ es. behind es (fill_one G k o s)) e) ∙ behind_is after (done r s')
 
-pub next_filled : (old mid new : List Event → Type 0) (G : Acts) (k : ℕ) (o : Lasting) (os : List Lasting) (s : State) (m m' : Machine) (es : List Event) → Filled old mid G k (o ∷ os) s m → fill_one G k o m.state ≡ prepend es (Goes tt m'.state) → Tells mid new es → m'.outbox ≡ [] → Filled old new G (k + 1) os s m'
-next_filled old mid new G k o os s m m' es at h t e = record {
+pub next_filled : (old mid new : List Event → Type 0) (G : Acts) (all : List Lasting) (k : ℕ) (o : Lasting) (os : List Lasting) (s : State) (m m' : Machine) (es : List Event) → Filled old mid G all k (o ∷ os) s m → fill_one G k o m.state ≡ prepend es (Goes tt m'.state) → Tells mid new es → m'.outbox ≡ [] → Filled old new G all (k + 1) os s m'
+next_filled old mid new G all k o os s m m' es at h t e = record {
   events = at.events ++ es;
   told = tells_on old mid new at.events es at.told t;
   leads =
@@ -32,8 +32,8 @@ next_filled old mid new G k o os s m m' es at h t e = record {
   empty = e;
 }
 
-pub stopped_filled : (old mid new : List Event → Type 0) (G : Acts) (k : ℕ) (o : Lasting) (os : List Lasting) (s : State) (m m' : Machine) (es : List Event) (why : Stop) → Filled old mid G k (o ∷ os) s m → fill_one G k o m.state ≡ prepend es (Stops why) → Tells mid new es → RanPart old new (fill_lasting G 0 G.lasting) s (Some why) m'.state
-stopped_filled old mid new G k o os s m m' es why at h t = record {
+pub stopped_filled : (old mid new : List Event → Type 0) (G : Acts) (all : List Lasting) (k : ℕ) (o : Lasting) (os : List Lasting) (s : State) (m m' : Machine) (es : List Event) (why : Stop) → Filled old mid G all k (o ∷ os) s m → fill_one G k o m.state ≡ prepend es (Stops why) → Tells mid new es → RanPart old new (fill_lasting G 0 all) s (Some why) m'.state
+stopped_filled old mid new G all k o os s m m' es why at h t = record {
   events = at.events ++ es;
   told = tells_on old mid new at.events es at.told t;
   run_is =
@@ -42,14 +42,14 @@ stopped_filled old mid new G k o os s m m' es why at h t = record {
       ∙ prepend_on at.events es (Stops why);
 }
 
-pub filled_all : (old new : List Event → Type 0) (G : Acts) (k : ℕ) (s : State) (m : Machine) → Filled old new G k [] s m → RanPart old new (fill_lasting G 0 G.lasting) s None m.state
-filled_all old new G k s m at = record { events = at.events; told = at.told; run_is = at.leads }
+pub filled_all : (old new : List Event → Type 0) (G : Acts) (all : List Lasting) (k : ℕ) (s : State) (m : Machine) → Filled old new G all k [] s m → RanPart old new (fill_lasting G 0 all) s None m.state
+filled_all old new G all k s m at = record { events = at.events; told = at.told; run_is = at.leads }
 
-pub begun_filled : (old new : List Event → Type 0) (G : Acts) (k : ℕ) (os : List Lasting) (s : State) (m : Machine) → Filled old new G k os s m → BegunPart old new (fill_lasting G 0 G.lasting) s
-begun_filled old new G k os s m at = record { events = at.events; told = at.told; others = fill_lasting G k os m.state; run_is = at.leads }
+pub begun_filled : (old new : List Event → Type 0) (G : Acts) (all : List Lasting) (k : ℕ) (os : List Lasting) (s : State) (m : Machine) → Filled old new G all k os s m → BegunPart old new (fill_lasting G 0 all) s
+begun_filled old new G all k os s m at = record { events = at.events; told = at.told; others = fill_lasting G k os m.state; run_is = at.leads }
 
-pub begun_filling : (old mid new : List Event → Type 0) (G : Acts) (k : ℕ) (o : Lasting) (os : List Lasting) (s : State) (m : Machine) (es : List Event) (r : Run (Unit {0})) → Filled old mid G k (o ∷ os) s m → fill_one G k o m.state ≡ prepend es r → TellsSome mid new es → BegunPart old new (fill_lasting G 0 G.lasting) s
-begun_filling old mid new G k o os s m es r at h t =
+pub begun_filling : (old mid new : List Event → Type 0) (G : Acts) (all : List Lasting) (k : ℕ) (o : Lasting) (os : List Lasting) (s : State) (m : Machine) (es : List Event) (r : Run (Unit {0})) → Filled old mid G all k (o ∷ os) s m → fill_one G k o m.state ≡ prepend es r → TellsSome mid new es → BegunPart old new (fill_lasting G 0 all) s
+begun_filling old mid new G all k o os s m es r at h t =
     let rest : (x : Unit {0}) → Part (Unit {0}) = λ _. fill_lasting G (k + 1) os in
     record {
       events = at.events ++ t.some;

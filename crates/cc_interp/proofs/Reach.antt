@@ -38,7 +38,7 @@ tells_none stands told h = subst stands (sym (append-nil told)) h
 
 -- at the beginning
 pub begins : (stands : List Event → Type 0) (G : Acts) (m : Machine) → m.outbox ≡ [] → Reached stands stands G m Next m
-begins stands G m e = record { events = []; told = tells_none stands; steps = 0; leads = λ k. refl; empty = e }
+begins stands G m e = record { events = []; told = tells_none stands; steps = 0; leads = λ k. ap (λ j. drive G j (config_of m) m.state) (let same : 0 + k ≡ k = omega arith in same); empty = e }
 
 -- what is done at the machine's point
 abbrev pub does : Acts → Machine → Run Config

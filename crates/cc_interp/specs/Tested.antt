@@ -62,8 +62,8 @@ pub record Called (old new : List Event → Type 0) (G : Acts) (calls rest : Lis
   pub empty : m.outbox ≡ []
 
 -- After these events the objects before number k have their first values.
-pub record Filled (old new : List Event → Type 0) (G : Acts) (k : ℕ) (rest : List Lasting) (s : State) (m : Machine) : Type 0 where
+pub record Filled (old new : List Event → Type 0) (G : Acts) (all : List Lasting) (k : ℕ) (rest : List Lasting) (s : State) (m : Machine) : Type 0 where
   pub events : List Event
   pub told : Tells old new events
-  pub leads : fill_lasting G 0 G.lasting s ≡ prepend events (fill_lasting G k rest m.state)
+  pub leads : fill_lasting G 0 all s ≡ prepend events (fill_lasting G k rest m.state)
   pub empty : m.outbox ≡ []

@@ -6,35 +6,36 @@ ghost use Rattle.cc_interp.specs.Tests as spec;
 use crate::rounds::run_machine;
 use crate::start::{begin, fill_one, fresh, idle, make_lasting};
 use crate::tell::flush;
-use cc_acts::{Acts, Stop};
+use cc_acts::{Acts, Lasting, Stop};
 use cc_base::Memory;
 use cc_interp_step::Machine;
 use cc_meaning::{Test, TestCall, Watch};
 use cc_store::Stack;
 use std::alloc::Global;
 
-// Gives all static objects and string literals their first values, and tells them.
+// Gives these static objects and string literals, the first ones that were made, their first values, and tells them.
 fn fill_lasting<W: Watch>(
     m: &mut Machine,
     acts: &Acts,
+    objects: &[Lasting],
     watch: &mut W,
 ) -> Result<Option<Stop>, Memory>
     requires empty { m.old.outbox ≡ [] }
-    ensures ran { IfOk result (λ stop. RanPart (W.stands_for watch.old) (W.stands_for watch.new) (spec.fill_lasting acts.now 0 acts.now.lasting) m.old.state stop m.new.state) }
+    ensures ran { IfOk result (λ stop. RanPart (W.stands_for watch.old) (W.stands_for watch.new) (spec.fill_lasting acts.now 0 objects.now) m.old.state stop m.new.state) }
     ensures empty { OnOk result (m.new.outbox ≡ []) }
-    ensures err { OnErr result (BegunPart (W.stands_for watch.old) (W.stands_for watch.new) (spec.fill_lasting acts.now 0 acts.now.lasting) m.old.state) }
+    ensures err { OnErr result (BegunPart (W.stands_for watch.old) (W.stands_for watch.new) (spec.fill_lasting acts.now 0 objects.now) m.old.state) }
 {
     let mut k: u32 = 0;
-    for object in acts.lasting.as_slice() {
+    for object in objects {
         if k == u32::MAX {
             return Err(Memory);
         }
         let stop = fill_one(&mut m.state, &mut m.outbox, acts, *object, k)?;
         flush(&mut m.outbox, watch)?;
-        if let Some(stop) = stop {
-            return Ok(Some(stop));
+        match stop {
+            Some(stop) => return Ok(Some(stop)),
+            None => k += 1,
         }
-        k += 1;
     }
     Ok(None)
 }
@@ -51,11 +52,12 @@ fn run_calls<W: Watch>(
     ensures err { OnErr result (BegunSteps (W.stands_for watch.old) (W.stands_for watch.new) (calls_of acts.now calls.now) m.old.state) }
 {
     for call in calls {
-        if !begin(m, acts, call)? {
-            return Ok(Some(Stop::Lost));
-        }
-        if let Some(stop) = run_machine(m, acts, watch)? {
-            return Ok(Some(stop));
+        match begin(m, acts, call)? {
+            false => return Ok(Some(Stop::Lost)),
+            true => match run_machine(m, acts, watch)? {
+                Some(stop) => return Ok(Some(stop)),
+                None => {}
+            },
         }
     }
     Ok(None)
@@ -72,13 +74,14 @@ fn run_from<W: Watch>(
     ensures ran { IfOk result (λ stop. RanSteps (W.stands_for watch.old) (W.stands_for watch.new) (run_with acts.now calls.now) m.old.state stop m.new.state) }
     ensures err { OnErr result (BegunSteps (W.stands_for watch.old) (W.stands_for watch.new) (run_with acts.now calls.now) m.old.state) }
 {
-    if let Some(stop) = make_lasting(&mut m.state, acts.lasting.as_slice())? {
-        return Ok(Some(stop));
+    let objects = acts.lasting.as_slice();
+    match make_lasting(&mut m.state, objects)? {
+        Some(stop) => Ok(Some(stop)),
+        None => match fill_lasting(m, acts, objects, watch)? {
+            Some(stop) => Ok(Some(stop)),
+            None => run_calls(m, acts, calls, watch),
+        },
     }
-    if let Some(stop) = fill_lasting(m, acts, watch)? {
-        return Ok(Some(stop));
-    }
-    run_calls(m, acts, calls, watch)
 }
 
 /// Runs a test over the acts of its program with so many cells, and tells the watcher exactly the events of the run. The
