@@ -11,7 +11,7 @@ use cc_meaning::{Coupling, Listing, RowReasons, Scores, Verdict, Verdicts};
 /// is, and justified where none is and each has a reason. Where `reasons` is not given, nothing is justified. Takes no
 /// memory.
 pub fn verdicts(listing: &Listing, scores: &Scores, reasons: Option<&RowReasons>) -> Verdicts
-    ensures { result ≡ spec.verdicts listing.now scores.now.marks (option_copied reasons) }
+    ensures { result ≡ spec.verdicts listing.now scores.now.marks (option_copied reasons.entry) }
 {
     Verdicts {
         calls: rows_verdict(listing, scores, reasons, true),
@@ -78,7 +78,7 @@ fn rows_verdict(
     reasons: Option<&RowReasons>,
     calls: bool,
 ) -> Verdict
-    ensures { result ≡ spec.rows_to listing.now scores.now.marks (option_copied reasons) calls (length listing.now) }
+    ensures { result ≡ spec.rows_to listing.now scores.now.marks (option_copied reasons.entry) calls (length listing.now) }
 {
     let mut verdict = NONE;
     for i in 0..listing.len() {
@@ -136,7 +136,7 @@ fn is_marked(listing: &Listing, scores: &Scores, count: u32, wanted: u32) -> boo
 #[tactic(auto, using(crate::proofs::More::reasoned_before))]
 fn is_reasoned(listing: &Listing, reasons: Option<&RowReasons>, count: u32, wanted: u32) -> bool
     requires { count ≤ length listing.now }
-    ensures { result ≡ spec.reasoned_to listing.now (option_copied reasons) wanted count }
+    ensures { result ≡ spec.reasoned_to listing.now (option_copied reasons.entry) wanted count }
 {
     let mut i = count;
     while i > 0 {
@@ -162,7 +162,7 @@ fn new_definition(listing: &Listing, row: u32) -> Option<u32>
 // The verdict on the definitions.
 #[tactic(auto, using(crate::proofs::More::defs_more))]
 fn defs_verdict(listing: &Listing, scores: &Scores, reasons: Option<&RowReasons>) -> Verdict
-    ensures { result ≡ spec.defs_to listing.now scores.now.marks (option_copied reasons) (length listing.now) }
+    ensures { result ≡ spec.defs_to listing.now scores.now.marks (option_copied reasons.entry) (length listing.now) }
 {
     let rows = listing.len();
     let mut verdict = NONE;

@@ -27,7 +27,7 @@ pub fn reason(reasons: &RowReasons, row: u32) -> Option<u32>
 
 /// Whether a row has a reason. Where rows cannot be justified, none has.
 pub fn has_reason(reasons: Option<&RowReasons>, row: u32) -> bool
-    ensures { result ≡ spec.has_reason (option_copied reasons) row }
+    ensures { result ≡ spec.has_reason (option_copied reasons.entry) row }
 {
     match reasons {
         Some(reasons) => reason(reasons, row).is_some(),

@@ -11,7 +11,7 @@ use std::alloc::Global;
 
 /// How a run ends, in words.
 pub fn end_text(alloc: Global, program: &Program, ending: Option<&End>) -> Result<String, Memory>
-    ensures { IfOk result (λ text. string_bytes text ≡ end_text program.now (option_copied ending)) }
+    ensures { IfOk result (λ text. string_bytes text ≡ end_text program.now (option_copied ending.entry)) }
 {
     let text = match ending {
         None => String::from_str(alloc, "-")?,

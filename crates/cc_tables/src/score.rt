@@ -25,7 +25,7 @@ pub fn score_csv(
     reasons: Option<&RowReasons>,
 ) -> Result<Vec<u8>, Memory>
     ensures { IfOk result (λ text. text.items
-        ≡ spec.score_text program.now listing.now scores.now tests.now (option_copied reasons)) }
+        ≡ spec.score_text program.now listing.now scores.now tests.now (option_copied reasons.entry)) }
 {
     let mut records = no_records(alloc);
     put_header(&mut records, reasons.is_some())?;
@@ -95,7 +95,7 @@ fn put_row(
     requires fresh { IsFresh records.old }
     requires number { i < 2 ^ 32 - 1 }
     ensures { OnOk result (IsFresh records.new × (written records.new ≡ written records.old
-        ++ record_text (decimal (i + 1) ∷ spec.scored_fields program.now row.now mark.now (option_copied reason)))) }
+        ++ record_text (decimal (i + 1) ∷ spec.scored_fields program.now row.now mark.now (option_copied reason.entry)))) }
 {
     let fields = row_fields(alloc, program, row)?;
     let number = (i + 1).to_string(alloc)?;
@@ -207,7 +207,7 @@ fn mark_text<'t>(tests: &'t TestList, scores: &Scores, row: u32) -> &'t str
 
 // The reason of a row, or `-`; none where rows cannot be justified.
 fn reason_at<'r>(reasons: Option<&'r RowReasons>, row: u32) -> Option<&'r str>
-    ensures { option_copied result ≡ spec.reason_at (option_copied reasons) row }
+    ensures { option_copied result ≡ spec.reason_at (option_copied reasons.entry) row }
 {
     match reasons {
         None => None,

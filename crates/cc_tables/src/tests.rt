@@ -138,7 +138,7 @@ fn put_numbered(
 ) -> Result<(), Memory>
     requires { IsFresh records.old }
     ensures { OnOk result (IsFresh records.new × (written records.new ≡ written records.old
-        ++ spec.numbered_text test.now requirement.now ending.now (option_copied row))) }
+        ++ spec.numbered_text test.now requirement.now ending.now (option_copied row.entry))) }
 {
     match row {
         None => Ok(()),
