@@ -7,8 +7,10 @@
 
 mod first;
 mod number;
+mod rows;
 mod source;
 
 pub use first::first_readers;
 pub use number::numbered;
+pub use rows::Passing;
 pub use source::sources;
