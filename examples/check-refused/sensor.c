@@ -1,5 +1,5 @@
 /* Samples of a sensor, and how good they are. */
-enum quality { GOOD, NOISY, LOST };
+#include "sensor.h"
 
 struct sample {
     int value;
@@ -8,13 +8,13 @@ struct sample {
 
 int read_adc(void);
 
-static struct sample last[4];
+static struct sample last[SAMPLES];
 static int place;
 
 void sensor_init(void)
 {
     int i;
-    for (i = 0; i < 4; i++) {
+    for (i = 0; i < SAMPLES; i++) {
         last[i].value = 0;
         last[i].age = 255;
     }
@@ -25,21 +25,21 @@ void sensor_read(void)
 {
     static unsigned reads;
     int i;
-    for (i = 0; i < 4; i++) {
+    for (i = 0; i < SAMPLES; i++) {
         if (last[i].age < 255) last[i].age++;
     }
     last[place].value = read_adc();
     last[place].age = 0;
-    place = (place + 1) % 4;
+    place = (place + 1) % SAMPLES;
     reads++;
 }
 
 int sensor_mean(void)
 {
     int i, sum = 0, count = 0;
-    for (i = 0; i < 4; i++) {
+    for (i = 0; i < SAMPLES; i++) {
         const struct sample *one = &last[i];
-        if (one->age < 4) {
+        if (one->age < SAMPLES) {
             sum += one->value;
             count++;
         }
@@ -50,7 +50,7 @@ int sensor_mean(void)
 enum quality sensor_quality(void)
 {
     int i, fresh = 0;
-    for (i = 0; i < 4; i++) {
+    for (i = 0; i < SAMPLES; i++) {
         if (last[i].age == 0) fresh++;
     }
     if (fresh == 0) return LOST;

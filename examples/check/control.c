@@ -1,10 +1,5 @@
 /* A valve that follows the mean of the sensor. */
-enum quality { GOOD, NOISY, LOST };
-
-void sensor_init(void);
-void sensor_read(void);
-int sensor_mean(void);
-enum quality sensor_quality(void);
+#include "sensor.h"
 
 int valve;
 static int demanded = 10;

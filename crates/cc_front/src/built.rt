@@ -1,10 +1,13 @@
 // The program of a project and its tests.
-ghost use Rattle.std.specs.Prelude.{◌≤◌, All, length};
+ghost use Rattle.std.specs.Prelude.{◌≡◌, ◌≤◌, All, IfErr, IfSome, length};
+ghost use Rattle.cc_prep.specs.Faults.{NoneFalls, counts_of};
+ghost use Rattle.cc_front.specs.Faults.{IsCaused, IsOther, IsToldIn};
 
 use crate::fault::{Fault, FrontFault};
 use crate::files::check_files;
 use cc_arena::Arena;
 use cc_base::{Bytes, List, Spot};
+use cc_io::Shelf;
 use cc_link::{LinkFault, link};
 use cc_meaning::TestList;
 use cc_program::Program;
@@ -33,7 +36,9 @@ impl Built {
 }
 
 // Why the files make no program.
-fn unlinked(fault: LinkFault) -> FrontFault {
+fn unlinked(fault: LinkFault) -> FrontFault
+    ensures { IsOther result }
+{
     match fault {
         LinkFault::Offence { place, rule } => FrontFault::At {
             file: place.file.0,
@@ -49,7 +54,9 @@ fn unlinked(fault: LinkFault) -> FrontFault {
 }
 
 // Why the tests don't suit the program.
-fn unbound(fault: TestFault) -> FrontFault {
+fn unbound(fault: TestFault) -> FrontFault
+    ensures { IsOther result }
+{
     match fault {
         TestFault::Shape { test, call, rule } => FrontFault::Test { test, call, rule },
         TestFault::Memory => FrontFault::Memory,
@@ -57,7 +64,9 @@ fn unbound(fault: TestFault) -> FrontFault {
 }
 
 // The program with the project's tests.
-fn with_tests(alloc: Global, project: &Project, program: Program) -> Result<Built, FrontFault> {
+fn with_tests(alloc: Global, project: &Project, program: Program) -> Result<Built, FrontFault>
+    ensures { IfErr result IsOther }
+{
     match bind_tests(alloc, project, &program) {
         Ok(tests) => Ok(Built { program, tests }),
         Err(fault) => Err(unbound(fault)),
@@ -68,15 +77,26 @@ fn with_tests(alloc: Global, project: &Project, program: Program) -> Result<Buil
 ///
 /// # Errors
 ///
-/// The first step that is refused: file by file its tokens (L1 to L9), its words (C1 to C14), its grammar (`Syntax`,
+/// The first step that is refused: file by file its tokens (L1 to L9, M1 to M7, files that it includes), its words (C1 to C14), its grammar (`Syntax`,
 /// `TooDeep`), its rules (C15 to C52); then the whole program (K1 to K10), then the tests (B1 to B3). A fault of syntax at a
 /// file's end stands one past its last byte. `Memory` may come at any step.
-pub fn front(alloc: Global, project: &Project, files: &List<Bytes>) -> Result<Built, FrontFault>
+pub fn front<S: Shelf>(
+    alloc: Global,
+    shelf: &mut S,
+    project: &Project,
+    files: &List<Bytes>,
+) -> Result<Built, FrontFault>
     requires few { length files.now ≤ 64 }
     requires small { All (λ bytes. length bytes ≤ 1048576) files.now }
+    ensures keeps { S.files shelf.new ≡ S.files shelf.old }
+    ensures none_falls { NoneFalls (counts_of (S.faults shelf.old) (S.misses shelf.old) (S.longs shelf.old))
+        (counts_of (S.faults shelf.new) (S.misses shelf.new) (S.longs shelf.new)) }
+    ensures caused { IfErr result (IsCaused (counts_of (S.faults shelf.old) (S.misses shelf.old) (S.longs shelf.old))
+        (counts_of (S.faults shelf.new) (S.misses shelf.new) (S.longs shelf.new))) }
+    ensures told { IfSome (S.files shelf.old) (λ held. IfErr result (IsToldIn held files.now)) }
 {
     let mut arena = Arena::new(alloc);
-    let checked = check_files(alloc, files, &mut arena)?;
+    let checked = check_files(alloc, shelf, project, files, &mut arena)?;
     match link(alloc, checked.known, arena, &checked.units, project) {
         Ok(program) => with_tests(alloc, project, program),
         Err(fault) => Err(unlinked(fault)),

@@ -1,12 +1,15 @@
 // Why files make no program with tests.
 use cc_base::{Memory, Spot};
 use cc_link::Names;
+use cc_prep::PrepFault;
 
 /// What is wrong at a place of a C file.
 #[derive(Clone, Copy, Debug, PartialEq, Eq)]
 pub enum Fault {
     /// The bytes have no cut into tokens: rule L`0` (docs/tokens.md).
     Lexical(u8),
+    /// A directive line can't be carried out: rule M`0` (docs/macros.md).
+    Directive(u8),
     /// No file of the grammar goes on so (docs/grammar.md).
     Syntax,
     /// The tree would be deeper than it may be.
@@ -18,8 +21,10 @@ pub enum Fault {
 }
 
 /// Why files make no program with tests.
-#[derive(Clone, Copy, Debug, PartialEq, Eq)]
+#[derive(Debug, Drop)]
 pub enum FrontFault {
+    /// A file has no tokens once its directive lines are carried out.
+    Expansion(PrepFault),
     /// Something is wrong at a place of a file, which is counted from 0 in the order of the project.
     At { file: u32, spot: Spot, fault: Fault },
     /// An entry or a function of the environment, counted from 0 in its list of the project, breaks rule K`rule`.
@@ -44,17 +49,24 @@ impl From<Memory> for FrontFault {
 }
 
 /// Why a file is refused, whichever it is.
-#[derive(Clone, Copy, Debug, PartialEq, Eq)]
+#[derive(Debug, Drop)]
 pub(crate) enum FileFault {
+    Expansion(PrepFault),
     At { spot: Spot, fault: Fault },
     TooManyNodes,
     Memory,
 }
 
 impl FileFault {
+    ghost use Rattle.std.specs.Prelude.{◌≡◌};
+    ghost use Rattle.cc_front.specs.Faults as spec;
+
     /// The fault of the file of this number.
-    pub(crate) fn in_file(self, file: u32) -> FrontFault {
+    pub(crate) fn in_file(self, file: u32) -> FrontFault
+        ensures { result ≡ spec.in_file self file }
+    {
         match self {
+            FileFault::Expansion(fault) => FrontFault::Expansion(fault),
             FileFault::At { spot, fault } => FrontFault::At { file, spot, fault },
             FileFault::TooManyNodes => FrontFault::TooManyNodes,
             FileFault::Memory => FrontFault::Memory,

@@ -12,4 +12,5 @@ mod tree;
 
 pub use built::{Built, front};
 pub use cc_link::Names;
+pub use cc_prep::PrepFault;
 pub use fault::{Fault, FrontFault};

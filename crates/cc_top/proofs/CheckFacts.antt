@@ -1,5 +1,5 @@
 -- What is told of the reading of a project's files, and of what is read.
-use Rattle.std.proofs.Common.{◌≡◌, ◌<◌, ◌≤◌, ◌++◌, ℕ, List, [], ◌∷◌, length, Option, Some, None, IfSome, IfErr, Result, Ok, Err, inl, inr, refl, sym, ap, ◌∙◌, arith, append_assoc, subst}
+use Rattle.std.proofs.Common.{◌≡◌, ◌≢◌, ◌<◌, ◌≤◌, ◌++◌, ℕ, List, [], ◌∷◌, length, Option, Some, None, IfSome, IfErr, Result, Ok, Err, inl, inr, refl, sym, ap, ◌∙◌, arith, append_assoc, subst}
 use Rattle.std.proofs.lemmas.List.{append-nil}
 use Rattle.std.specs.FinMap.{get}
 use Rattle.cc_io.specs.Shelf.{Files}
@@ -10,7 +10,7 @@ use Rattle.cc_project.specs.WellMade.{file_names_of}
 use Rattle.cc_top.proofs.Tells.{Outcome, after_read, names_weaker, tells_weaker}
 use Rattle.cc_top.specs.Answer.{Reply, AfterRead, AfterFiles, OfCheck, OfChecked, refused}
 use Rattle.cc_top.specs.Holds.{AllHold, AddsHeld}
-use Rattle.cc_top.specs.Reads.{IsReached}
+use Rattle.cc_top.specs.Reads.{IsIncludedIn, IsReached, MayBeReached}
 use Rattle.cc_top.specs.Refusal.{FaultNames, IsOfInput, RefusesOne, RefusesRead, line_of, status_of, missing_line, long_line}
 use Rattle.cc_top.specs.Tells.{Tells, IsNamedToCheck, reply_of}
 use Rattle.cc_top.specs.declared.refusal.Refusal.{Refusal}
@@ -111,9 +111,18 @@ names_one files (name ∷ names) refusal (inr h) =
     names_weaker (IsReached files names) (IsReached files (name ∷ names)) (λ told of. inr (h.0, h.1, of)) (Err refusal) (names_one files names refusal h.2)
 
 -- a read fault names a file that is reached
-pub files_named : (o : Option Files) (names : List (List ℕ)) (refusal : Refusal) → IfSome o (λ files. RefusesOne files names refusal) → IfSome o (λ files. FaultNames (IsReached files names) refusal)
+pub files_named : (o : Option Files) (names : List (List ℕ)) (refusal : Refusal) → IfSome o (λ files. RefusesOne files names refusal) → IfSome o (λ files. FaultNames (MayBeReached files names) refusal)
 files_named None names refusal h = tt
-files_named (Some files) names refusal h = names_one files names refusal h
+files_named (Some files) names refusal h =
+    names_weaker (IsReached files names) (MayBeReached files names) (λ name of. inl of) (Err refusal) (names_one files names refusal h)
+
+-- a read fault of files that are all held names one that they include
+pub included_named : (o : Option Files) (names contents : List (List ℕ)) (r : Outcome) → IfSome o (λ files. AddsHeld files names [] contents)
+    → IfSome o (λ files. IfErr r (FaultNames (IsIncludedIn files contents))) → IfSome o (λ files. IfErr r (FaultNames (MayBeReached files names)))
+included_named None names contents r adds h = tt
+included_named (Some files) names contents r adds h =
+    let held : AllHold files names contents = subst (AllHold files names) (sym adds.1) adds.2 in
+    names_weaker (IsIncludedIn files contents) (MayBeReached files names) (λ name of. inr (contents, held, of)) r h
 
 -- a refusal of what is read is no reading
 pub input_named : (P : List ℕ → Type 0) (refusal : Refusal) → IsOfInput refusal → FaultNames P refusal
@@ -132,25 +141,25 @@ input_named P why.TooManyNodes h = tt
 input_named P why.Internal h = tt
 input_named P why.Memory h = tt
 
-input_status : (refusal : Refusal) → IsOfInput refusal → status_of refusal < 4 → reply_of refusal ≡ refused (line_of refusal) 3
-input_status why.Usage h below = absurd h
-input_status (why.ReadFault name) h below = absurd h
-input_status (why.Missing name) h below = absurd h
-input_status (why.TooLong name) h below = absurd h
-input_status (why.Unbuilt name) h below = refl
-input_status (why.NotToml name) h below = refl
-input_status (why.Shape name key rule) h below = refl
-input_status (why.At at) h below = refl
-input_status (why.Entry name rule) h below = refl
-input_status (why.Environment name rule) h below = refl
-input_status (why.Test test call rule) h below = refl
-input_status why.TooManyNodes h below = refl
-input_status why.Internal h below = refl
-input_status why.Memory h below = absurd (omega (arith, below))
+status_3 : (refusal : Refusal) → status_of refusal ≢ 2 → status_of refusal < 4 → reply_of refusal ≡ refused (line_of refusal) 3
+status_3 why.Usage h below = absurd (h refl)
+status_3 (why.ReadFault name) h below = absurd (omega (arith, below))
+status_3 (why.Missing name) h below = refl
+status_3 (why.TooLong name) h below = refl
+status_3 (why.Unbuilt name) h below = refl
+status_3 (why.NotToml name) h below = refl
+status_3 (why.Shape name key rule) h below = refl
+status_3 (why.At at) h below = refl
+status_3 (why.Entry name rule) h below = refl
+status_3 (why.Environment name rule) h below = refl
+status_3 (why.Test test call rule) h below = refl
+status_3 why.TooManyNodes h below = refl
+status_3 why.Internal h below = refl
+status_3 why.Memory h below = absurd (omega (arith, below))
 
--- a refusal of what is read is an answer to the files
-pub input_told : (project : Checked) (contents : List (List ℕ)) (refusal : Refusal) → IsOfInput refusal → status_of refusal < 4 → OfChecked project contents (reply_of refusal)
-input_told project contents refusal h below = inr (line_of refusal, input_status refusal h below)
+-- a refusal that is not the usage line is an answer to the files
+pub refused_told : (project : Checked) (contents : List (List ℕ)) (refusal : Refusal) → status_of refusal ≢ 2 → status_of refusal < 4 → OfChecked project contents (reply_of refusal)
+refused_told project contents refusal h below = inr (line_of refusal, status_3 refusal h below)
 
 -- what is told of the files is told of the project that names them
 pub check_told : (o : Option Files) (name bytes : List ℕ) (project : Checked) (r : Outcome) → IsChecked bytes project
@@ -160,7 +169,7 @@ check_told (Some files) name bytes project r is h =
     tells_weaker (AfterFiles files (file_names_of project.files) (OfChecked project)) (OfCheck files name bytes) (λ reply of. inr (inr (project, is, of))) r h
 
 pub check_named : (o : Option Files) (bytes : List ℕ) (project : Checked) (r : Outcome) → IsChecked bytes project
-    → IfSome o (λ files. IfErr r (FaultNames (IsReached files (file_names_of project.files)))) → IfSome o (λ files. IfErr r (FaultNames (IsNamedToCheck files bytes)))
+    → IfSome o (λ files. IfErr r (FaultNames (MayBeReached files (file_names_of project.files)))) → IfSome o (λ files. IfErr r (FaultNames (IsNamedToCheck files bytes)))
 check_named None bytes project r is h = tt
 check_named (Some files) bytes project r is h =
-    names_weaker (IsReached files (file_names_of project.files)) (IsNamedToCheck files bytes) (λ name of. (project, is, of)) r h
+    names_weaker (MayBeReached files (file_names_of project.files)) (IsNamedToCheck files bytes) (λ name of. (project, is, of)) r h

@@ -12,7 +12,7 @@ use Rattle.cc_top.specs.Answer as Answer
 use Rattle.cc_top.specs.Counts.{Counts}
 use Rattle.cc_top.specs.Run.{Answers, SomeEnd}
 use Rattle.cc_top.specs.Answer.{Reply, IsAnswer}
-use Rattle.cc_top.specs.Reads.{Reads}
+use Rattle.cc_top.specs.Reads.{MayRead}
 use Rattle.cc_top.specs.Refusal.{line_of, status_of, FaultNames, IsReadFault}
 use Rattle.cc_top.specs.Tells.{reply_of, EndTells}
 use Rattle.cc_top.specs.Ends.{done, refused, write_fault, memory, write_line, Held, EndCaused}
@@ -57,7 +57,7 @@ nothing_told None words = tt
 nothing_told (Some files) words = tt
 
 pub end_of_report : (o : Option Files) (words : List (List ℕ)) (refusal : Refusal) (out err err' : Held) (shelf shelf' : Counts) (result : ℕ)
-    → IfSome o (λ files. status_of refusal < 4 → IsAnswer words files (reply_of refusal)) → IfSome o (λ files. FaultNames (Reads words files) refusal) → EndCaused shelf shelf' (refused refusal)
+    → IfSome o (λ files. status_of refusal < 4 → IsAnswer words files (reply_of refusal)) → IfSome o (λ files. FaultNames (MayRead words files) refusal) → EndCaused shelf shelf' (refused refusal)
     → Reported (line_of refusal) (status_of refusal) err.bytes err'.bytes err.faults err'.faults result → SomeEnd o words out out err err' shelf shelf' result
 end_of_report o words refusal out err err' shelf shelf' result told reads caused reported =
     elim reported [

@@ -1,4 +1,5 @@
 pub mod CheckFacts
+pub mod FrontFacts
 pub mod EndFacts
 pub mod Reached
 pub mod Sound

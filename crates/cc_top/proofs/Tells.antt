@@ -8,7 +8,7 @@ use Rattle.cc_top.specs.Words.{IsNoCommand, check_words, list_words}
 use Rattle.cc_first.specs.Project.{Project, IsProject}
 use Rattle.cc_first.specs.Unit.{Part, IsUnit, program_of}
 use Rattle.cc_top.specs.Answer.{Reply, AfterRead, OfProgram, OfFiles, OfProject, OfCheck, IsAnswer}
-use Rattle.cc_top.specs.Reads.{IsFileName, IsReadToCheck, IsReadToList, Reads}
+use Rattle.cc_top.specs.Reads.{IsFileName, MayBeReadToCheck, IsReadToList, MayRead}
 use Rattle.cc_top.specs.Refusal.{FaultNames, status_of}
 use Rattle.cc_top.specs.Tells.{Tells, IsNamed, IsNamedToCheck}
 use Rattle.cc_top.specs.declared.refusal.Refusal.TheVariants as why
@@ -110,27 +110,27 @@ listed_names (Some files) name bytes r short held h =
 
 -- a fault at a file of the project names one that `check` reads
 pub checked_names : (o : Option Files) (name bytes : List ℕ) (r : Outcome) → length bytes ≤ limit → IfSome o (λ files. get files name ≡ Some bytes)
-    → IfSome o (λ files. IfErr r (FaultNames (IsNamedToCheck files bytes))) → IfSome o (λ files. IfErr r (FaultNames (IsReadToCheck files name)))
+    → IfSome o (λ files. IfErr r (FaultNames (IsNamedToCheck files bytes))) → IfSome o (λ files. IfErr r (FaultNames (MayBeReadToCheck files name)))
 checked_names None name bytes r short held h = tt
 checked_names (Some files) name bytes r short held h =
-    names_weaker (IsNamedToCheck files bytes) (IsReadToCheck files name) (λ told of. inr (bytes, of.0, (held, short), of.1, of.2)) r h
+    names_weaker (IsNamedToCheck files bytes) (MayBeReadToCheck files name) (λ told of. inr (bytes, of.0, (held, short), of.1, of.2)) r h
 
 -- a fault at the project names it
 pub project_listed : (o : Option Files) (name : List ℕ) (refusal : Refusal) → FaultNames (λ told. told ≡ name) refusal → IfSome o (λ files. FaultNames (IsReadToList files name) refusal)
 project_listed None name refusal h = tt
 project_listed (Some files) name refusal h = names_weaker (λ told. told ≡ name) (IsReadToList files name) (λ told e. inl e) (Err refusal) h
 
-pub project_checked : (o : Option Files) (name : List ℕ) (refusal : Refusal) → FaultNames (λ told. told ≡ name) refusal → IfSome o (λ files. FaultNames (IsReadToCheck files name) refusal)
+pub project_checked : (o : Option Files) (name : List ℕ) (refusal : Refusal) → FaultNames (λ told. told ≡ name) refusal → IfSome o (λ files. FaultNames (MayBeReadToCheck files name) refusal)
 project_checked None name refusal h = tt
-project_checked (Some files) name refusal h = names_weaker (λ told. told ≡ name) (IsReadToCheck files name) (λ told e. inl e) (Err refusal) h
+project_checked (Some files) name refusal h = names_weaker (λ told. told ≡ name) (MayBeReadToCheck files name) (λ told e. inl e) (Err refusal) h
 
 -- what is read to list, or to check, is read for the words that ask for it
 pub reads_to_list : (o : Option Files) (words : List (List ℕ)) (name : List ℕ) (r : Outcome) → words ≡ list_words name
-    → IfSome o (λ files. IfErr r (FaultNames (IsReadToList files name))) → IfSome o (λ files. IfErr r (FaultNames (Reads words files)))
+    → IfSome o (λ files. IfErr r (FaultNames (IsReadToList files name))) → IfSome o (λ files. IfErr r (FaultNames (MayRead words files)))
 reads_to_list None words name r is h = tt
-reads_to_list (Some files) words name r is h = names_weaker (IsReadToList files name) (Reads words files) (λ told of. inl (name, is, of)) r h
+reads_to_list (Some files) words name r is h = names_weaker (IsReadToList files name) (MayRead words files) (λ told of. inl (name, is, of)) r h
 
 pub reads_to_check : (o : Option Files) (words : List (List ℕ)) (name : List ℕ) (r : Outcome) → words ≡ check_words name
-    → IfSome o (λ files. IfErr r (FaultNames (IsReadToCheck files name))) → IfSome o (λ files. IfErr r (FaultNames (Reads words files)))
+    → IfSome o (λ files. IfErr r (FaultNames (MayBeReadToCheck files name))) → IfSome o (λ files. IfErr r (FaultNames (MayRead words files)))
 reads_to_check None words name r is h = tt
-reads_to_check (Some files) words name r is h = names_weaker (IsReadToCheck files name) (Reads words files) (λ told of. inr (name, is, of)) r h
+reads_to_check (Some files) words name r is h = names_weaker (MayBeReadToCheck files name) (MayRead words files) (λ told of. inr (name, is, of)) r h

@@ -4,7 +4,12 @@ use Rattle.std.specs.FinMap.{get}
 use Rattle.std.specs.Fmt.{decimal}
 use Rattle.cc_front.specs.declared.fault.Fault.{Fault}
 use Rattle.cc_front.specs.declared.fault.Fault.TheVariants as fault
+use Rattle.cc_front.specs.declared.fault.FrontFault.{FrontFault}
+use Rattle.cc_front.specs.declared.fault.FrontFault.TheVariants as front
+use Rattle.cc_base.specs.declared.place.Spot.{Spot}
 use Rattle.cc_io.specs.Shelf.{Files}
+use Rattle.cc_prep.specs.declared.fault.PrepFault.{PrepFault}
+use Rattle.cc_prep.specs.declared.fault.PrepFault.TheVariants as prep
 use Rattle.cc_first.specs.Limit.{limit}
 use Rattle.cc_top.specs.Holds.{Holds}
 use Rattle.cc_project.specs.declared.fault.ProjectFault.{ProjectFault}
@@ -39,6 +44,7 @@ shape_line name key rule = name ++ (codes ": J" ++ (decimal rule ++ (codes " " +
 -- what is wrong at a place
 abbrev pub fault_text : Fault → List ℕ
 fault_text (fault.Lexical rule) = codes "lexical L" ++ decimal rule
+fault_text (fault.Directive rule) = codes "directive M" ++ decimal rule
 fault_text fault.Syntax = codes "syntax"
 fault_text fault.TooDeep = codes "too deep"
 fault_text (fault.Offence rule) = codes "offence C" ++ decimal rule
@@ -126,6 +132,24 @@ IsOfInput (ReadFault name) = ⊥
 IsOfInput (Missing name) = ⊥
 IsOfInput (TooLong name) = ⊥
 IsOfInput _ = Unit {0}
+
+-- something is wrong at a place of a file
+abbrev pub refusal_at : List ℕ → Spot → Fault → Refusal
+refusal_at file spot what = refusal.At (record { file = file; spot = spot; fault = what })
+
+-- why a file has no tokens once its directive lines are carried out
+abbrev pub refusal_of : PrepFault → Refusal
+refusal_of (prep.Lexical file spot rule) = refusal_at file spot (fault.Lexical rule)
+refusal_of (prep.Directive file spot rule) = refusal_at file spot (fault.Directive rule)
+refusal_of (prep.ReadFault file) = ReadFault file
+refusal_of (prep.Missing file) = Missing file
+refusal_of (prep.TooLong file) = TooLong file
+refusal_of prep.Memory = Memory
+
+-- the refusal that a fault of the front end is
+abbrev pub IsOfFront : FrontFault → Refusal → Type 0
+IsOfFront (front.Expansion why) refused = (refused ≡ refusal_of why) ⊎ IsOfInput refused
+IsOfFront _ refused = IsOfInput refused
 
 -- the reading of these files in their order is refused so
 abbrev pub RefusesOne : Files → List (List ℕ) → Refusal → Type 0

@@ -7,7 +7,7 @@ use Rattle.cc_first.specs.Unit.{program_of}
 use Rattle.cc_top.specs.Answer.{IsAnswer, Reply}
 use Rattle.cc_top.specs.Counts.{Counts}
 use Rattle.cc_top.specs.Ends.{End, Ends, Held}
-use Rattle.cc_top.specs.Reads.{Fails, Reads}
+use Rattle.cc_top.specs.Reads.{Fails, MayRead, Reads}
 use Rattle.cc_top.specs.Sound.{CoversRuns, Listed}
 use Rattle.cc_top.specs.Tells.{EndReads, EndTells}
 use Rattle.cc_top.specs.Words.{list_words}
@@ -32,8 +32,8 @@ Covers words files out out' result =
     × CoversRuns listed.project (program_of listed.parts listed.others) listed.entry text
 
 -- some end says what stands on out and err, and which count rose; over a told shelf its text or refusal is the answer's,
--- and a read fault names a file that is read
+-- and a read fault names a file that may be read
 abbrev pub SomeEnd : Option Files → (words : List (List ℕ)) (out out' err err' : Held) (shelf shelf' : Counts) (result : ℕ) → Type 0
 SomeEnd files words out out' err err' shelf shelf' result =
     (end : End) × Ends out out' err err' shelf shelf' result end
-    × IfSome files (λ files. EndTells (IsAnswer words files) end) × IfSome files (λ files. EndReads (Reads words files) end)
+    × IfSome files (λ files. EndTells (IsAnswer words files) end) × IfSome files (λ files. EndReads (MayRead words files) end)

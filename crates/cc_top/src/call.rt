@@ -79,7 +79,7 @@ pub fn run<S: Shelf, K: Sink, E: Sink>(
         (K.held out.old) (K.held out.new) result) }
 
     // Some end says what stands on out and err, and which count rose. Over a told shelf its text or refusal is the answer's,
-    // and a read fault names a file that is read.
+    // and a read fault names a file that may be read.
     ensures ends { SomeEnd (S.files shelf.old) (map string_bytes words.now)
         (held_of (K.held out.old) (K.faults out.old)) (held_of (K.held out.new) (K.faults out.new))
         (held_of (E.held err.old) (E.faults err.old)) (held_of (E.held err.new) (E.faults err.new))

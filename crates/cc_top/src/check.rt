@@ -2,19 +2,20 @@
 //
 // Each step that reads the shelf says what those of `list` say (the module `steps`).
 ghost use Rattle.std.specs.Prelude.{◌≡◌, ◌≢◌, ◌≤◌, All, IfErr, IfOk, IfSome, length, string_bytes};
+ghost use Rattle.cc_front.specs.Faults.{IsCaused, IsToldIn};
 ghost use Rattle.cc_project.specs.Outcome.{IsFault};
 ghost use Rattle.cc_project.specs.WellMade.{file_names_of};
 ghost use Rattle.cc_top.specs.Answer.{AfterFiles, OfCheck, OfChecked, counts_line};
 ghost use Rattle.cc_top.specs.Counts.{Caused, NoneFalls, counts_of};
 ghost use Rattle.cc_top.specs.Holds.{IsShort};
-ghost use Rattle.cc_top.specs.Reads.{IsReached};
-ghost use Rattle.cc_top.specs.Refusal.{FaultNames, IsOfInput, RefusesProject, status_of};
+ghost use Rattle.cc_top.specs.Reads.{IsIncludedIn, MayBeReached};
+ghost use Rattle.cc_top.specs.Refusal.{FaultNames, IsOfFront, IsOfInput, RefusesProject, refusal_at, refusal_of, status_of};
 ghost use Rattle.cc_top.specs.Tells.{IsNamedToCheck, Tells};
 
 use crate::reading::{read_files, text_of};
 use crate::refusal::{At, Refusal};
-use cc_base::{List, Text};
-use cc_front::{FrontFault, Names, front};
+use cc_base::{List, Spot, Text};
+use cc_front::{Fault, FrontFault, Names, PrepFault, front};
 use cc_io::{ByteList, Shelf};
 use cc_project::{Project, ProjectFault, read_project};
 use std::alloc::{AllocError, Global};
@@ -87,12 +88,34 @@ fn of_name(
     }
 }
 
+// Something is wrong at a place of a file, the project's or an included one.
+fn at(file: Text, spot: Spot, fault: Fault) -> Refusal
+    ensures { result ≡ refusal_at file spot fault }
+{
+    Refusal::At(At { file, spot, fault })
+}
+
+// Why a file has no tokens once its directive lines are carried out.
+fn of_expansion(fault: PrepFault) -> Refusal
+    ensures { result ≡ refusal_of fault }
+{
+    match fault {
+        PrepFault::Lexical { file, spot, rule } => at(file, spot, Fault::Lexical(rule)),
+        PrepFault::Directive { file, spot, rule } => at(file, spot, Fault::Directive(rule)),
+        PrepFault::ReadFault { file } => Refusal::ReadFault(file),
+        PrepFault::Missing { file } => Refusal::Missing(file),
+        PrepFault::TooLong { file } => Refusal::TooLong(file),
+        PrepFault::Memory => Refusal::Memory,
+    }
+}
+
 // The refusal that a fault of the front end is; an `Err` is one too.
 fn of_fault(alloc: Global, project: &Project, fault: FrontFault) -> Result<Refusal, Refusal>
-    ensures ok { IfOk result IsOfInput }
+    ensures ok { IfOk result (IsOfFront fault) }
     ensures err { IfErr result IsOfInput }
 {
     match fault {
+        FrontFault::Expansion(fault) => Ok(of_expansion(fault)),
         FrontFault::At { file, spot, fault } => {
             let file = file_name(alloc, project, file)?;
             Ok(Refusal::At(At { file, spot, fault }))
@@ -109,7 +132,7 @@ fn of_fault(alloc: Global, project: &Project, fault: FrontFault) -> Result<Refus
 
 // Why files make no program with tests.
 fn of_front(alloc: Global, project: &Project, fault: FrontFault) -> Refusal
-    ensures { IsOfInput result }
+    ensures { IsOfFront fault result }
 {
     match of_fault(alloc, project, fault) {
         Ok(refusal) => refusal,
@@ -135,32 +158,47 @@ fn counts(
 }
 
 // How many functions and static objects the program of files that are read defines.
-fn numbers(
+fn numbers<S: Shelf>(
     alloc: Global,
+    shelf: &mut S,
     project: &Project,
     files: &List<ByteList>,
 ) -> Result<(u32, u32), FrontFault>
     requires few { length files.now ≤ 64 }
     requires short { All IsShort files.now }
+    ensures keeps { S.files shelf.new ≡ S.files shelf.old }
+    ensures none_falls { NoneFalls (counts_of (S.faults shelf.old) (S.misses shelf.old) (S.longs shelf.old))
+        (counts_of (S.faults shelf.new) (S.misses shelf.new) (S.longs shelf.new)) }
+    ensures caused { IfErr result (IsCaused (counts_of (S.faults shelf.old) (S.misses shelf.old) (S.longs shelf.old))
+        (counts_of (S.faults shelf.new) (S.misses shelf.new) (S.longs shelf.new))) }
+    ensures told { IfSome (S.files shelf.old) (λ held. IfErr result (IsToldIn held files.now)) }
 {
-    match front(alloc, project, files) {
+    match front(alloc, shelf, project, files) {
         Ok(built) => Ok((built.defined_functions(), built.static_objects())),
         Err(fault) => Err(fault),
     }
 }
 
 // Checks files that are read.
-fn files_checked(
+fn files_checked<S: Shelf>(
     alloc: Global,
+    shelf: &mut S,
     project: &Project,
     files: &List<ByteList>,
 ) -> Result<Vec<u8>, Refusal>
     requires few { length files.now ≤ 64 }
     requires short { All IsShort files.now }
+    ensures keeps { S.files shelf.new ≡ S.files shelf.old }
+    ensures none_falls { NoneFalls (counts_of (S.faults shelf.old) (S.misses shelf.old) (S.longs shelf.old))
+        (counts_of (S.faults shelf.new) (S.misses shelf.new) (S.longs shelf.new)) }
     ensures told { Tells (OfChecked project.now files.now) result }
-    ensures input { IfErr result IsOfInput }
+    ensures caused { IfErr result (Caused (counts_of (S.faults shelf.old) (S.misses shelf.old) (S.longs shelf.old))
+        (counts_of (S.faults shelf.new) (S.misses shelf.new) (S.longs shelf.new))) }
+    ensures kind { IfErr result (λ refusal. status_of refusal ≢ 2) }
+    ensures names { IfSome (S.files shelf.old) (λ held. IfErr result
+        (FaultNames (IsIncludedIn held files.now))) }
 {
-    match numbers(alloc, project, files) {
+    match numbers(alloc, shelf, project, files) {
         Ok((functions, objects)) => Ok(counts(alloc, project, functions, objects)?.into_bytes()),
         Err(fault) => Err(of_front(alloc, project, fault)),
     }
@@ -181,10 +219,10 @@ fn project_checked<S: Shelf>(
         (counts_of (S.faults shelf.new) (S.misses shelf.new) (S.longs shelf.new))) }
     ensures kind { IfErr result (λ refusal. status_of refusal ≢ 2) }
     ensures names { IfSome (S.files shelf.old) (λ files. IfErr result
-        (FaultNames (IsReached files (file_names_of project.now.files)))) }
+        (FaultNames (MayBeReached files (file_names_of project.now.files)))) }
 {
     match read_files(alloc, shelf, project.files.as_slice(), List::new(alloc)) {
-        Ok(files) => files_checked(alloc, project, &files),
+        Ok(files) => files_checked(alloc, shelf, project, &files),
         Err(refusal) => Err(refusal),
     }
 }

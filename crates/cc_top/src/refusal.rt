@@ -72,6 +72,7 @@ fn fault_text(alloc: Global, fault: Fault) -> Result<String, AllocError>
 {
     match fault {
         Fault::Lexical(rule) => format!(in alloc; "lexical L{rule}"),
+        Fault::Directive(rule) => format!(in alloc; "directive M{rule}"),
         Fault::Syntax => String::from_str(alloc, "syntax"),
         Fault::TooDeep => String::from_str(alloc, "too deep"),
         Fault::Offence(rule) => format!(in alloc; "offence C{rule}"),

@@ -2,10 +2,10 @@
 //
 // Each step that reads the shelf says this: the files stay (`keeps`), no count falls (`none_falls`), a refusal to read
 // comes only where its count rose (`caused`), and over a shelf that tells its files what the text or the refusal stands
-// for is what the definitions allow (`told`), and a read fault names a file that they read (`names`).
+// for is what the definitions allow (`told`), and a read fault names a file that they may read (`names`).
 ghost use Rattle.std.specs.Prelude.{◌≡◌, ◌≢◌, ◌↔◌, ◌≤◌, ◌<◌, List, Err, IfErr, IfOk, IfSome, length, map, string_bytes};
 ghost use Rattle.cc_top.specs.Answer.{AfterRead, IsAnswer, OfCheck, OfFiles, OfProgram, OfProject};
-ghost use Rattle.cc_top.specs.Reads.{IsFileName, IsReadToCheck, IsReadToList, Reads};
+ghost use Rattle.cc_top.specs.Reads.{IsFileName, IsReadToList, MayBeReadToCheck, MayRead};
 ghost use Rattle.cc_first.specs.Project.{IsProject, IsWell, Project as ProjectData};
 ghost use Rattle.cc_top.specs.Counts.{Caused, NoneFalls, counts_of};
 ghost use Rattle.cc_top.specs.Refusal.{FaultNames, IsOfForm, RefusesForm, status_of};
@@ -199,7 +199,7 @@ fn checked<S: Shelf>(alloc: Global, shelf: &mut S, name: &str) -> Result<Vec<u8>
     ensures caused { IfErr result (Caused (counts_of (S.faults shelf.old) (S.misses shelf.old) (S.longs shelf.old))
         (counts_of (S.faults shelf.new) (S.misses shelf.new) (S.longs shelf.new))) }
     ensures kind { IfErr result (λ refusal. status_of refusal ≢ 2) }
-    ensures names { IfSome (S.files shelf.old) (λ files. IfErr result (FaultNames (IsReadToCheck files name.now))) }
+    ensures names { IfSome (S.files shelf.old) (λ files. IfErr result (FaultNames (MayBeReadToCheck files name.now))) }
 {
     match read_file(alloc, shelf, name) {
         Ok(file) => document_checked(alloc, shelf, name, file.bytes()),
@@ -222,7 +222,7 @@ pub fn text_for<S: Shelf>(
         (counts_of (S.faults shelf.old) (S.misses shelf.old) (S.longs shelf.old))
         (counts_of (S.faults shelf.new) (S.misses shelf.new) (S.longs shelf.new))) }
     ensures names { IfSome (S.files shelf.old) (λ files. IfErr result
-        (FaultNames (Reads (map string_bytes words.now) files))) }
+        (FaultNames (MayRead (map string_bytes words.now) files))) }
     ensures usage { (result ≡ Err Refusal.Usage) ↔ IsNoCommand (map string_bytes words.now) }
     ensures untouched { result ≡ Err Refusal.Usage → shelf.new ≡ shelf.old }
 {

@@ -28,6 +28,10 @@ const USAGE: &str = "usage: coupling check|list|score|tests|pairs P | gen N\n";
 
 const UNBUILT: &str = "p.toml: form not built yet\n";
 
+// Each macro has the one before twice: the last stands for 2^21 tokens.
+const DOUBLING: &str =
+    "#define A x\n#define B A A\n#define C B B\n#define D C C\n#define E D D\n#define F E E\n#define G F F\n#define H G G\n#define I H H\n#define J I I\n#define K J J\n#define L K K\n#define M L L\n#define N M M\n#define O N N\n#define P O O\n#define Q P P\n#define R Q Q\n#define S R R\n#define T S S\n#define U T T\n#define V U U\nint V;\n";
+
 // The most bytes that a file may have.
 const LIMIT: usize = 1_048_576;
 
@@ -211,6 +215,40 @@ fn counts(rt: HostRuntime) -> Result<(), Fail> {
             3,
         ),
         ("int f(int x) { return x;", "", "a.c:1:25: syntax\n", 3),
+    ];
+    for (a, out, err, status) in cases {
+        shelf.add("a.c", a.as_bytes())?;
+        assert!(rt;
+            answers(
+                rt.alloc(),
+                &["check", "p.toml"],
+                &mut shelf,
+                out,
+                err,
+                status
+            )?,
+            "{a}"
+        );
+    }
+    Ok(())
+}
+
+// Macros and a header: what they make, macros that stand for too many tokens, and a header that isn't there.
+#[test]
+fn macros(rt: HostRuntime) -> Result<(), Fail> {
+    let mut shelf = SureShelf::new(rt.alloc());
+    shelf.add("p.toml", PROJECT.as_bytes())?;
+    shelf.add("g.h", b"#ifndef G\n#define G\nvoid g(void);\n#endif\n")?;
+    shelf.add("b.c", b"#include \"g.h\"\nvoid g(void) { }\n")?;
+    let cases = [
+        (
+            "#include \"g.h\"\n#define CALL g()\nvoid f(void) { CALL; }\n",
+            "ok components 2 files 2 functions 2 objects 0 tests 0\n",
+            "",
+            0,
+        ),
+        (DOUBLING, "", "a.c:23:5: directive M7\n", 3),
+        ("#include \"h.h\"\n", "", "h.h: missing\n", 3),
     ];
     for (a, out, err, status) in cases {
         shelf.add("a.c", a.as_bytes())?;

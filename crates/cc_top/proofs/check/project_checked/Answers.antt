@@ -1,7 +1,7 @@
 use Rattle.std.proofs.Common.{ap}
 use Rattle.cc_project.specs.Project.{Project as Checked}
 use Rattle.cc_project.specs.WellMade.{file_names_of}
-use Rattle.cc_top.proofs.CheckFacts.{files_led, files_refused, files_named}
+use Rattle.cc_top.proofs.CheckFacts.{files_led, files_refused, files_named, included_named}
 use Rattle.cc_top.specs.Answer.{OfChecked}
 use Rattle.cc_top.proofs.check.project_checked.Goals as goal
 
@@ -19,3 +19,9 @@ pub returns-in-Err-clause-names : goal.returns-in-Err-clause-names
 returns-in-Err-clause-names g c =
     let refused = rw (c.as_slice.ensures, ap (λ (p : Checked). p.files) c.project.view_is) at c.in-Err.ensures.refused in
     files_named (g.S.Shelf.files c.args.shelf.now) (file_names_of c.args.project.now.files) c.in-Err.refusal refused
+
+pub returns-in-Ok-clause-names : goal.returns-in-Ok-clause-names
+returns-in-Ok-clause-names g c =
+    let held = rw (c.new.ensures, c.as_slice.ensures, ap (λ (p : Checked). p.files) c.project.view_is) at c.in-Ok.ensures.held in
+    let names = rw c.read_files.ensures.keeps at c.files_checked.ensures.names in
+    included_named (g.S.Shelf.files c.args.shelf.now) (file_names_of c.args.project.now.files) c.in-Ok.files c.files_checked.result held names
