@@ -56,7 +56,7 @@ fn report<E: Sink>(alloc: Global, err: &mut E, refusal: &Refusal) -> u8
 /// `err` that says why there is none. The answer is the status: 0 done, 2 the words are no command, 3 the input is
 /// refused, 4 a fault of the shelf or of a sink, 5 want of memory.
 ///
-/// Whatever is read is read from the shelf by the names that the words and the project file give.
+/// Whatever is read is read from the shelf by the names that the words, the project file and `include` lines give.
 pub fn run<S: Shelf, K: Sink, E: Sink>(
     alloc: Global,
     words: &[String],
@@ -68,7 +68,8 @@ pub fn run<S: Shelf, K: Sink, E: Sink>(
     ensures told { IfSome (S.files shelf.old) (λ files. Answers (map string_bytes words.now) files
         (K.held out.old) (K.held out.new) (E.held err.old) (E.held err.new) result) }
 
-    // A file that the reading reaches and that is missing or too long is what is refused, where the status is below 4.
+    // A project file, or one of its files that the reading reaches, that is missing or too long is what is refused, where the
+    // status is below 4.
     ensures reached { IfSome (S.files shelf.old) (λ files.
         RefusesReached (map string_bytes words.now) files
         (K.held out.old) (K.held out.new) (E.held err.old) (E.held err.new) result) }
