@@ -77,9 +77,9 @@ fn with_tests(alloc: Global, project: &Project, program: Program) -> Result<Buil
 ///
 /// # Errors
 ///
-/// The first step that is refused: file by file its tokens (L1 to L9, M1 to M7, files that it includes), its words (C1 to C14), its grammar (`Syntax`,
-/// `TooDeep`), its rules (C15 to C52); then the whole program (K1 to K10), then the tests (B1 to B3). A fault of syntax at a
-/// file's end stands one past its last byte. `Memory` may come at any step.
+/// The first step that is refused: file by file its tokens (L1 to L9, M1 to M7, files that it includes), its words (C1 to
+/// C14), its grammar (`Syntax`, `TooDeep`), its rules (C15 to C52); then the whole program (K1 to K10), then the tests (B1 to
+/// B3). A fault of syntax at a file's end stands one past its last byte. `Memory` may come at any step.
 pub fn front<S: Shelf>(
     alloc: Global,
     shelf: &mut S,
