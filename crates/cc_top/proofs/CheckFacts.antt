@@ -4,15 +4,16 @@ use Rattle.std.proofs.lemmas.List.{append-nil}
 use Rattle.std.specs.FinMap.{get}
 use Rattle.cc_io.specs.Shelf.{Files}
 use Rattle.cc_first.specs.Limit.{limit}
-use Rattle.cc_project.specs.Project.{Project as Checked}
-use Rattle.cc_project.specs.Outcome.{IsProject as IsChecked}
+use Rattle.cc_project.specs.Project.{Project}
+use Rattle.cc_project.specs.Outcome.{IsProject}
 use Rattle.cc_project.specs.WellMade.{file_names_of}
 use Rattle.cc_top.proofs.Tells.{Outcome, after_read, names_weaker, tells_weaker}
-use Rattle.cc_top.specs.Answer.{Reply, AfterRead, AfterFiles, OfCheck, OfChecked, refused}
+use Rattle.cc_top.specs.Answer.{Reply, AfterRead, AfterFiles, OfBytes, OfChecked, OfFiles, OfWhole, refused}
 use Rattle.cc_top.specs.Holds.{AllHold, AddsHeld}
 use Rattle.cc_top.specs.Reads.{IsIncludedIn, IsReached, MayBeReached}
 use Rattle.cc_top.specs.Refusal.{FaultNames, IsOfInput, RefusesOne, RefusesRead, line_of, status_of, missing_line, long_line}
-use Rattle.cc_top.specs.Tells.{Tells, IsNamedToCheck, reply_of}
+use Rattle.cc_top.specs.Tells.{Tells, IsNamed, reply_of}
+use Rattle.cc_top.specs.declared.words.Task.{Task}
 use Rattle.cc_top.specs.declared.refusal.Refusal.{Refusal}
 use Rattle.cc_top.specs.declared.refusal.Refusal.TheVariants as why
 
@@ -65,7 +66,9 @@ read_refused files name next (why.TooLong told) h below = rw h.2 (inl (h.3, ap (
 read_refused files name next (why.ReadFault told) h below = absurd (omega (arith, below))
 read_refused files name next why.Memory h below = absurd (omega (arith, below))
 read_refused files name next why.Usage h below = absurd h
-read_refused files name next (why.Unbuilt told) h below = absurd h
+read_refused files name next (why.TooManyPoints count) h below = absurd h
+read_refused files name next why.TooManyFacts h below = absurd h
+read_refused files name next why.TooManyRows h below = absurd h
 read_refused files name next (why.NotToml told) h below = absurd h
 read_refused files name next (why.Shape told key rule) h below = absurd h
 read_refused files name next (why.At at) h below = absurd h
@@ -94,7 +97,9 @@ names_read files name (why.Missing told) h = tt
 names_read files name (why.TooLong told) h = tt
 names_read files name why.Memory h = tt
 names_read files name why.Usage h = tt
-names_read files name (why.Unbuilt told) h = tt
+names_read files name (why.TooManyPoints count) h = tt
+names_read files name why.TooManyFacts h = tt
+names_read files name why.TooManyRows h = tt
 names_read files name (why.NotToml told) h = tt
 names_read files name (why.Shape told key rule) h = tt
 names_read files name (why.At at) h = tt
@@ -130,7 +135,9 @@ input_named P why.Usage h = tt
 input_named P (why.ReadFault name) h = absurd h
 input_named P (why.Missing name) h = tt
 input_named P (why.TooLong name) h = tt
-input_named P (why.Unbuilt name) h = tt
+input_named P (why.TooManyPoints count) h = tt
+input_named P why.TooManyFacts h = tt
+input_named P why.TooManyRows h = tt
 input_named P (why.NotToml name) h = tt
 input_named P (why.Shape name key rule) h = tt
 input_named P (why.At at) h = tt
@@ -146,7 +153,9 @@ status_3 why.Usage h below = absurd (h refl)
 status_3 (why.ReadFault name) h below = absurd (omega (arith, below))
 status_3 (why.Missing name) h below = refl
 status_3 (why.TooLong name) h below = refl
-status_3 (why.Unbuilt name) h below = refl
+status_3 (why.TooManyPoints count) h below = refl
+status_3 why.TooManyFacts h below = refl
+status_3 why.TooManyRows h below = refl
 status_3 (why.NotToml name) h below = refl
 status_3 (why.Shape name key rule) h below = refl
 status_3 (why.At at) h below = refl
@@ -158,18 +167,21 @@ status_3 why.Internal h below = refl
 status_3 why.Memory h below = absurd (omega (arith, below))
 
 -- a refusal that is not the usage line is an answer to the files
-pub refused_told : (project : Checked) (contents : List (List ℕ)) (refusal : Refusal) → status_of refusal ≢ 2 → status_of refusal < 4 → OfChecked project contents (reply_of refusal)
+pub refused_told : (project : Project) (contents : List (List ℕ)) (refusal : Refusal) → status_of refusal ≢ 2 → status_of refusal < 4 → OfChecked project contents (reply_of refusal)
 refused_told project contents refusal h below = inr (line_of refusal, status_3 refusal h below)
 
--- what is told of the files is told of the project that names them
-pub check_told : (o : Option Files) (name bytes : List ℕ) (project : Checked) (r : Outcome) → IsChecked bytes project
-    → IfSome o (λ files. Tells (AfterFiles files (file_names_of project.files) (OfChecked project)) r) → IfSome o (λ files. Tells (OfCheck files name bytes) r)
-check_told None name bytes project r is h = tt
-check_told (Some files) name bytes project r is h =
-    tells_weaker (AfterFiles files (file_names_of project.files) (OfChecked project)) (OfCheck files name bytes) (λ reply of. inr (inr (project, is, of))) r h
+pub refused_whole : (refusal : Refusal) → status_of refusal ≢ 2 → status_of refusal < 4 → OfWhole (reply_of refusal)
+refused_whole refusal h below = inr (line_of refusal, status_3 refusal h below)
 
-pub check_named : (o : Option Files) (bytes : List ℕ) (project : Checked) (r : Outcome) → IsChecked bytes project
-    → IfSome o (λ files. IfErr r (FaultNames (MayBeReached files (file_names_of project.files)))) → IfSome o (λ files. IfErr r (FaultNames (IsNamedToCheck files bytes)))
-check_named None bytes project r is h = tt
-check_named (Some files) bytes project r is h =
-    names_weaker (MayBeReached files (file_names_of project.files)) (IsNamedToCheck files bytes) (λ name of. (project, is, of)) r h
+-- what is told of the files is told of the project that names them
+pub document_told : (o : Option Files) (t : Task) (name bytes : List ℕ) (project : Project) (r : Outcome) → IsProject bytes project
+    → IfSome o (λ files. Tells (AfterFiles files (file_names_of project.files) (OfFiles t bytes project)) r) → IfSome o (λ files. Tells (OfBytes t files name bytes) r)
+document_told None t name bytes project r is h = tt
+document_told (Some files) t name bytes project r is h =
+    tells_weaker (AfterFiles files (file_names_of project.files) (OfFiles t bytes project)) (OfBytes t files name bytes) (λ reply of. inr (inr (project, is, of))) r h
+
+pub document_named : (o : Option Files) (bytes : List ℕ) (project : Project) (r : Outcome) → IsProject bytes project
+    → IfSome o (λ files. IfErr r (FaultNames (MayBeReached files (file_names_of project.files)))) → IfSome o (λ files. IfErr r (FaultNames (IsNamed files bytes)))
+document_named None bytes project r is h = tt
+document_named (Some files) bytes project r is h =
+    names_weaker (MayBeReached files (file_names_of project.files)) (IsNamed files bytes) (λ name of. (project, is, of)) r h

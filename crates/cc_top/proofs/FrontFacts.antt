@@ -24,12 +24,14 @@ input_of_front (front.Test test call rule) r h = h
 input_of_front front.TooManyNodes r h = h
 input_of_front front.Memory r h = h
 
-input_kind : (r : Refusal) → IsOfInput r → status_of r ≢ 2
+pub input_kind : (r : Refusal) → IsOfInput r → status_of r ≢ 2
 input_kind why.Usage h = absurd h
 input_kind (why.ReadFault name) h = absurd h
 input_kind (why.Missing name) h = absurd h
 input_kind (why.TooLong name) h = absurd h
-input_kind (why.Unbuilt name) h = λ e. absurd (omega (arith, e))
+input_kind (why.TooManyPoints count) h = λ e. absurd (omega (arith, e))
+input_kind why.TooManyFacts h = λ e. absurd (omega (arith, e))
+input_kind why.TooManyRows h = λ e. absurd (omega (arith, e))
 input_kind (why.NotToml name) h = λ e. absurd (omega (arith, e))
 input_kind (why.Shape name key rule) h = λ e. absurd (omega (arith, e))
 input_kind (why.At at) h = λ e. absurd (omega (arith, e))
@@ -40,12 +42,14 @@ input_kind why.TooManyNodes h = λ e. absurd (omega (arith, e))
 input_kind why.Internal h = λ e. absurd (omega (arith, e))
 input_kind why.Memory h = λ e. absurd (omega (arith, e))
 
-input_caused : (old new : Counts) (r : Refusal) → IsOfInput r → Caused old new r
+pub input_caused : (old new : Counts) (r : Refusal) → IsOfInput r → Caused old new r
 input_caused old new why.Usage h = absurd h
 input_caused old new (why.ReadFault name) h = absurd h
 input_caused old new (why.Missing name) h = absurd h
 input_caused old new (why.TooLong name) h = absurd h
-input_caused old new (why.Unbuilt name) h = (λ x. absurd x, λ x. absurd x, λ x. absurd x)
+input_caused old new (why.TooManyPoints count) h = (λ x. absurd x, λ x. absurd x, λ x. absurd x)
+input_caused old new why.TooManyFacts h = (λ x. absurd x, λ x. absurd x, λ x. absurd x)
+input_caused old new why.TooManyRows h = (λ x. absurd x, λ x. absurd x, λ x. absurd x)
 input_caused old new (why.NotToml name) h = (λ x. absurd x, λ x. absurd x, λ x. absurd x)
 input_caused old new (why.Shape name key rule) h = (λ x. absurd x, λ x. absurd x, λ x. absurd x)
 input_caused old new (why.At at) h = (λ x. absurd x, λ x. absurd x, λ x. absurd x)

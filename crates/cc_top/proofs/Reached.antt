@@ -1,5 +1,5 @@
 -- A file that the reading reaches and that is missing or too long is what is refused.
-use Rattle.std.proofs.Common.{◌≡◌, ◌≤◌, ℕ, List, [], ◌∷◌, Option, Some, None, IfSome, inl, inr, ⊎_elim, sym, ap, ◌∙◌, arith, subst}
+use Rattle.std.proofs.Common.{◌≡◌, ◌≤◌, ℕ, List, [], ◌∷◌, Option, Some, None, IfSome, inl, inr, ⊎_elim, refl, sym, ap, ◌∙◌, arith, subst}
 use Rattle.std.specs.Io.KnownBytes.{append_known}
 use Rattle.cc_top.proofs.EndFacts.{append_known-nil}
 use Rattle.cc_top.specs.Run.{Answers, RefusesReached}
@@ -7,62 +7,50 @@ use Rattle.std.proofs.lemmas.Option.{same_Some}
 use Rattle.cc_io.specs.Shelf.{Files}
 use Rattle.toml.specs.Data.{table}
 use Rattle.cc_project.specs.Order.{shape_fault}
-use Rattle.cc_project.specs.Project.{Project as Checked, project_of}
-use Rattle.cc_project.specs.Outcome.{IsFault, IsProject as IsChecked}
+use Rattle.cc_project.specs.Project.{Project, project_of}
+use Rattle.cc_project.specs.Outcome.{IsFault, IsProject}
 use Rattle.cc_project.specs.WellMade.{file_names_of}
 use Rattle.cc_project.specs.declared.fault.ProjectFault.TheVariants.{Shape}
-use Rattle.cc_top.specs.Words.{check_words, list_words}
-use Rattle.cc_first.specs.Project.{Project, IsProject}
-use Rattle.cc_first.proofs.OneProject.{same_project}
-use Rattle.cc_top.specs.Answer.{Reply, refused, AfterRead, AfterFiles, OfFiles, OfProject, OfCheck, OfChecked, IsAnswer}
-use Rattle.cc_top.specs.Holds.{Holds}
-use Rattle.cc_top.specs.Reads.{IsReached, IsReadToCheck, IsReadToList, Reads, Fails, Lacks, Passes}
+use Rattle.cc_top.specs.Words.{IsNoCommand, words_of}
+use Rattle.cc_top.specs.declared.words.Task.{Task}
+use Rattle.cc_top.specs.declared.words.Task.TheVariants as task
+use Rattle.cc_top.specs.Answer.{Reply, refused, AfterRead, AfterFiles, OfBytes, OfFiles, IsAnswer}
+use Rattle.cc_top.specs.Holds.{AllHold, Holds}
+use Rattle.cc_top.specs.Reads.{IsReached, IsReadFor, Reads, Fails, Lacks, Passes}
 
 at_read : (files : Files) (name line : List ℕ) (next : List ℕ → Reply → Type 0) (reply : Reply) → Fails files name line → AfterRead files name next reply → reply ≡ refused line 3
 at_read files name line next reply (Lacks is) after = rw is at after
 at_read files name line next reply (Passes {bytes = bytes} is long) after =
     ⊎_elim (λ p. p.1) (λ p. absurd (omega (arith, p.0, long))) (rw is at after)
 
-past_read : (files : Files) (name bytes : List ℕ) (next : List ℕ → Reply → Type 0) (reply : Reply) → Holds files name bytes → AfterRead files name next reply → next bytes reply
+pub past_read : (files : Files) (name bytes : List ℕ) (next : List ℕ → Reply → Type 0) (reply : Reply) → Holds files name bytes → AfterRead files name next reply → next bytes reply
 past_read files name bytes next reply held after =
     ⊎_elim (λ p. absurd (omega (arith, p.0, held.1))) (λ p. p.1) (rw held.0 at after)
 
-abbrev Behind : Files → List ℕ → Project → Reply → Type 0
-Behind files name project = AfterRead files project.first.file (λ first. AfterRead files project.second.file (λ second. OfFiles name project first second))
-
-of_project : (files : Files) (name bytes : List ℕ) (project : Project) (reply : Reply) → IsProject bytes project → OfProject files name bytes reply → Behind files name project reply
-of_project files name bytes project reply is of =
-    ⊎_elim (λ p. absurd (p.0 project is))
-    (λ p. subst (λ q. Behind files name q reply) (same_project p.0 project (same_Some _ _ (sym p.1.document ∙ is.document))) p.2) of
-
-list_fails : (files : Files) (project_name name line : List ℕ) (reply : Reply) → IsReadToList files project_name name → Fails files name line
-    → AfterRead files project_name (OfProject files project_name) reply → reply ≡ refused line 3
-list_fails files project_name name line reply reads fails after =
-    ⊎_elim (λ e. at_read files project_name line (OfProject files project_name) reply (subst (λ n. Fails files n line) e fails) after)
-    (λ q.
-    let behind : Behind files project_name q.1 reply = of_project files project_name q.0 q.1 reply q.3 (past_read files project_name q.0 (OfProject files project_name) reply q.2 after) in
-    let second : List ℕ → List ℕ → Reply → Type 0 = λ one two. OfFiles project_name q.1 one two in
-    let next : List ℕ → Reply → Type 0 = λ one. AfterRead files q.1.second.file (second one) in
-    ⊎_elim (λ e. at_read files q.1.first.file line next reply (subst (λ n. Fails files n line) e fails) behind)
-    (λ r. at_read files q.1.second.file line (second r.0) reply (subst (λ n. Fails files n line) r.2 fails) (past_read files q.1.first.file r.0 next reply r.1 behind))
-    q.4)
-    reads
-
-same_checked : (bytes : List ℕ) (p q : Checked) → IsChecked bytes p → IsChecked bytes q → p ≡ q
+pub same_checked : (bytes : List ℕ) (p q : Project) → IsProject bytes p → IsProject bytes q → p ≡ q
 same_checked bytes p q is is' =
     is.3 ∙ ap (λ d. project_of (table d)) (same_Some _ _ (sym is.1.parsed ∙ is'.1.parsed)) ∙ sym is'.3
 
-not_both : {A : Type 0} (bytes : List ℕ) (project : Checked) (key : List ℕ) (rule : ℕ) → IsChecked bytes project → IsFault bytes (Shape key rule) → A
+not_both : {A : Type 0} (bytes : List ℕ) (project : Project) (key : List ℕ) (rule : ℕ) → IsProject bytes project → IsFault bytes (Shape key rule) → A
 not_both bytes project key rule is fault =
     let same = same_Some _ _ (sym is.1.parsed ∙ fault.1.parsed) in
     absurd (let e = sym is.2 ∙ ap (λ d. shape_fault (table d)) same ∙ fault.2 in cc)
 
-of_checked : (files : Files) (name bytes : List ℕ) (project : Checked) (reply : Reply) → IsChecked bytes project → OfCheck files name bytes reply
-    → AfterFiles files (file_names_of project.files) (OfChecked project) reply
-of_checked files name bytes project reply is (inl p) = absurd (p.0 is.0 is.1)
-of_checked files name bytes project reply is (inr (inl p)) = not_both bytes project p.0 p.1 is p.2
-of_checked files name bytes project reply is (inr (inr p)) =
-    subst (λ q. AfterFiles files (file_names_of q.files) (OfChecked q) reply) (same_checked bytes p.0 project p.1 is) p.2
+pub of_checked : (t : Task) (files : Files) (name bytes : List ℕ) (project : Project) (reply : Reply) → IsProject bytes project → OfBytes t files name bytes reply
+    → AfterFiles files (file_names_of project.files) (OfFiles t bytes project) reply
+of_checked t files name bytes project reply is (inl p) = absurd (p.0 is.0 is.1)
+of_checked t files name bytes project reply is (inr (inl p)) = not_both bytes project p.0 p.1 is p.2
+of_checked t files name bytes project reply is (inr (inr p)) =
+    subst (λ q. AfterFiles files (file_names_of q.files) (OfFiles t bytes q) reply) (same_checked bytes p.0 project p.1 is) p.2
+
+-- files that are held lead on
+pub past_files : (files : Files) (names contents : List (List ℕ)) (next : List (List ℕ) → Reply → Type 0) (reply : Reply) → AllHold files names contents
+    → AfterFiles files names next reply → next contents reply
+past_files files [] [] next reply held after = after
+past_files files [] (bytes ∷ contents) next reply held after = absurd held
+past_files files (name ∷ names) [] next reply held after = absurd held
+past_files files (name ∷ names) (bytes ∷ contents) next reply held after =
+    past_files files names contents (λ rest. next (bytes ∷ rest)) reply held.1 (past_read files name bytes (λ it. AfterFiles files names (λ rest. next (it ∷ rest))) reply held.0 after)
 
 files_fail : (files : Files) (names : List (List ℕ)) (next : List (List ℕ) → Reply → Type 0) (name line : List ℕ) (reply : Reply) → IsReached files names name → Fails files name line
     → AfterFiles files names next reply → reply ≡ refused line 3
@@ -73,42 +61,41 @@ files_fail files (other ∷ others) next name line reply (inr r) fails after =
     files_fail files others (λ rest. next (r.0 ∷ rest)) name line reply r.2 fails
     (past_read files other r.0 (λ bytes. AfterFiles files others (λ rest. next (bytes ∷ rest))) reply r.1 after)
 
-check_fails : (files : Files) (project_name name line : List ℕ) (reply : Reply) → IsReadToCheck files project_name name → Fails files name line
-    → AfterRead files project_name (OfCheck files project_name) reply → reply ≡ refused line 3
-check_fails files project_name name line reply reads fails after =
-    ⊎_elim (λ e. at_read files project_name line (OfCheck files project_name) reply (subst (λ n. Fails files n line) e fails) after)
+bytes_fail : (t : Task) (files : Files) (project_name name line : List ℕ) (reply : Reply) → IsReadFor files project_name name → Fails files name line
+    → AfterRead files project_name (OfBytes t files project_name) reply → reply ≡ refused line 3
+bytes_fail t files project_name name line reply reads fails after =
+    ⊎_elim (λ e. at_read files project_name line (OfBytes t files project_name) reply (subst (λ n. Fails files n line) e fails) after)
     (λ q.
-    let behind = of_checked files project_name q.0 q.1 reply q.3 (past_read files project_name q.0 (OfCheck files project_name) reply q.2 after) in
-    files_fail files (file_names_of q.1.files) (OfChecked q.1) name line reply q.4 fails behind)
+    let behind = of_checked t files project_name q.0 q.1 reply q.3 (past_read files project_name q.0 (OfBytes t files project_name) reply q.2 after) in
+    files_fail files (file_names_of q.1.files) (OfFiles t q.0 q.1) name line reply q.4 fails behind)
     reads
 
-same_word : (p q : List ℕ) → list_words p ≡ list_words q → p ≡ q
-same_word p q e = cc
+-- words that ask for something ask for one thing alone
+pub same_name : (t u : Task) (p q : List ℕ) → words_of t p ≡ words_of u q → p ≡ q
+same_name t u p q e = cc
 
-same_checked_word : (p q : List ℕ) → check_words p ≡ check_words q → p ≡ q
-same_checked_word p q e = cc
+pub same_task : (t u : Task) (p q : List ℕ) → words_of t p ≡ words_of u q → t ≡ u
+same_task task.List task.List p q e = refl
+same_task task.Check task.Check p q e = refl
+same_task task.List task.Check p q e = absurd (let f = e in cc)
+same_task task.Check task.List p q e = absurd (let f = e in cc)
 
-other_words : {A : Type 0} (p q : List ℕ) → list_words p ≡ check_words q → A
-other_words p q e = absurd (let f = e in cc)
+no_task : (words : List (List ℕ)) (t : Task) (name : List ℕ) → words ≡ words_of t name → IsNoCommand words → ⊥
+no_task words task.List name is none = (none name).0 is
+no_task words task.Check name is none = (none name).1 is
 
-to_list : (words : List (List ℕ)) (files : Files) (named name line : List ℕ) (reply : Reply) → words ≡ list_words named → IsReadToList files named name → Fails files name line
-    → IsAnswer words files reply → reply ≡ refused line 3
-to_list words files named name line reply is reads fails (inl p) = absurd ((p.0 named).0 is)
-to_list words files named name line reply is reads fails (inr (inl p)) =
-    list_fails files named name line reply reads fails (subst (λ n. AfterRead files n (OfProject files n) reply) (same_word p.0 named (sym p.1 ∙ is)) p.2)
-to_list words files named name line reply is reads fails (inr (inr p)) = other_words named p.0 (sym is ∙ p.1)
-
-to_check : (words : List (List ℕ)) (files : Files) (named name line : List ℕ) (reply : Reply) → words ≡ check_words named → IsReadToCheck files named name → Fails files name line
-    → IsAnswer words files reply → reply ≡ refused line 3
-to_check words files named name line reply is reads fails (inl p) = absurd ((p.0 named).1 is)
-to_check words files named name line reply is reads fails (inr (inl p)) = other_words p.0 named (sym p.1 ∙ is)
-to_check words files named name line reply is reads fails (inr (inr p)) =
-    check_fails files named name line reply reads fails (subst (λ n. AfterRead files n (OfCheck files n) reply) (same_checked_word p.0 named (sym p.1 ∙ is)) p.2)
+-- the answer to words that ask for something
+pub asked : (words : List (List ℕ)) (files : Files) (t : Task) (name : List ℕ) (reply : Reply) → words ≡ words_of t name → IsAnswer words files reply → AfterRead files name (OfBytes t files name) reply
+asked words files t name reply is (inl p) = absurd (no_task words t name is p.0)
+asked words files t name reply is (inr p) =
+    let e : words_of p.0 p.1 ≡ words_of t name = sym p.2 ∙ is in
+    let named : AfterRead files name (OfBytes p.0 files name) reply = subst (λ n. AfterRead files n (OfBytes p.0 files n) reply) (same_name p.0 t p.1 name e) p.3 in
+    subst (λ u. AfterRead files name (OfBytes u files name) reply) (same_task p.0 t p.1 name e) named
 
 pub reached_fails : (words : List (List ℕ)) (files : Files) (name line : List ℕ) (reply : Reply) → Reads words files name → Fails files name line → IsAnswer words files reply
     → reply ≡ refused line 3
-reached_fails words files name line reply (inl reads) fails answer = to_list words files reads.0 name line reply reads.1 reads.2 fails answer
-reached_fails words files name line reply (inr reads) fails answer = to_check words files reads.0 name line reply reads.1 reads.2 fails answer
+reached_fails words files name line reply reads fails answer =
+    bytes_fail reads.0 files reads.1 name line reply reads.3 fails (asked words files reads.0 reads.1 reply reads.2 answer)
 
 -- so a status below 4 is 3, with that line on err and nothing on out
 pub reached_answer : (o : Option Files) (words : List (List ℕ)) (out out' err err' : Option (List ℕ)) (result : ℕ) → IfSome o (λ files. Answers words files out out' err err' result)

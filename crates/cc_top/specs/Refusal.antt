@@ -16,7 +16,7 @@ use Rattle.cc_project.specs.declared.fault.ProjectFault.{ProjectFault}
 use Rattle.cc_project.specs.declared.fault.ProjectFault.TheVariants as why
 use Rattle.cc_top.specs.declared.refusal.At.{At}
 use Rattle.cc_top.specs.declared.refusal.Refusal.{Refusal}
-use Rattle.cc_top.specs.declared.refusal.Refusal.TheVariants.{Usage, ReadFault, Missing, TooLong, Unbuilt, NotToml, Shape, Entry, Environment, Test, TooManyNodes, Internal, Memory}
+use Rattle.cc_top.specs.declared.refusal.Refusal.TheVariants.{Usage, ReadFault, Missing, TooLong, NotToml, Shape, Entry, Environment, Test, TooManyNodes, TooManyPoints, TooManyFacts, TooManyRows, Internal, Memory}
 use Rattle.cc_top.specs.declared.refusal.Refusal.TheVariants as refusal
 
 abbrev pub usage_line : List ℕ
@@ -28,8 +28,9 @@ missing_line name = name ++ codes ": missing\n"
 abbrev pub long_line : List ℕ → List ℕ
 long_line name = name ++ codes ": too long\n"
 
-abbrev pub unbuilt_line : List ℕ → List ℕ
-unbuilt_line name = name ++ codes ": form not built yet\n"
+-- so many control points are too many
+abbrev pub points_line : ℕ → List ℕ
+points_line count = codes "too many control points: " ++ (decimal count ++ codes "\n")
 
 abbrev pub memory_line : List ℕ
 memory_line = codes "out of memory\n"
@@ -70,7 +71,6 @@ line_of Usage = usage_line
 line_of (ReadFault name) = name ++ codes ": read fault\n"
 line_of (Missing name) = missing_line name
 line_of (TooLong name) = long_line name
-line_of (Unbuilt name) = unbuilt_line name
 line_of (NotToml name) = not_toml_line name
 line_of (Shape name key rule) = shape_line name key rule
 line_of (refusal.At at) = at_line at
@@ -78,6 +78,9 @@ line_of (Entry name rule) = entry_line name rule
 line_of (Environment name rule) = environment_line name rule
 line_of (Test test call rule) = test_line test call rule
 line_of TooManyNodes = codes "too many nodes\n"
+line_of (TooManyPoints count) = points_line count
+line_of TooManyFacts = codes "too many facts\n"
+line_of TooManyRows = codes "too many rows\n"
 line_of Internal = codes "internal: a number without a name\n"
 line_of Memory = memory_line
 
@@ -108,22 +111,10 @@ RefusesRead files name (TooLong told) = (told ≡ name) × (bytes : List ℕ) ×
 RefusesRead files name Memory = Unit {0}
 RefusesRead files name _ = ⊥
 
--- the form of the named file is refused, or memory was wanting
-abbrev pub RefusesForm : List ℕ → Refusal → Type 0
-RefusesForm name (Unbuilt told) = told ≡ name
-RefusesForm name Memory = Unit {0}
-RefusesForm name _ = ⊥
-
 -- a read fault names a file of which P holds
 abbrev pub FaultNames : (List ℕ → Type 0) → Refusal → Type 0
 FaultNames P (ReadFault told) = P told
 FaultNames P _ = Unit {0}
-
--- a file or the project is not of the first form, or memory was wanting
-abbrev pub IsOfForm : Refusal → Type 0
-IsOfForm (Unbuilt name) = Unit {0}
-IsOfForm Memory = Unit {0}
-IsOfForm _ = ⊥
 
 -- what is read is refused, and no reading; or memory was wanting
 abbrev pub IsOfInput : Refusal → Type 0

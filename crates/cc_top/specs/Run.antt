@@ -8,7 +8,7 @@ use Rattle.cc_top.specs.Answer.{IsAnswer, Reply}
 use Rattle.cc_top.specs.Counts.{Counts}
 use Rattle.cc_top.specs.Ends.{End, Ends, Held}
 use Rattle.cc_top.specs.Reads.{Fails, MayRead, Reads}
-use Rattle.cc_top.specs.Sound.{CoversRuns, Listed}
+use Rattle.cc_top.specs.Sound.{CoversRuns, IsOfFirstForm, Listed}
 use Rattle.cc_top.specs.Tells.{EndReads, EndTells}
 use Rattle.cc_top.specs.Words.{list_words}
 
@@ -24,11 +24,11 @@ RefusesReached words files out out' err err' result =
     (name line : List ℕ) → Reads words files name → Fails files name line
     → result < 4 → (result ≡ 3) × (out' ≡ out) × (err' ≡ append_known err line)
 
--- where the words list a project and the status is 0, out grew by the table of a program that the files make, and each
--- call coupling that any run of this program exercises, whatever calls of the entry and turns, has its line in it
+-- where the words list a project of the first form and the status is 0, out grew by the table of a program that the files
+-- make, and each call coupling that any run of this program exercises, whatever calls of the entry and turns, has its line in it
 abbrev pub Covers : (words : List (List ℕ)) → Files → (out out' : Option (List ℕ)) (result : ℕ) → Type 0
 Covers words files out out' result =
-    (name : List ℕ) → words ≡ list_words name → result ≡ 0 → (text : List ℕ) × (out' ≡ append_known out text) × (listed : Listed words files text)
+    (name : List ℕ) → words ≡ list_words name → result ≡ 0 → IsOfFirstForm files name → (text : List ℕ) × (out' ≡ append_known out text) × (listed : Listed words files text)
     × CoversRuns listed.project (program_of listed.parts listed.others) listed.entry text
 
 -- some end says what stands on out and err, and which count rose; over a told shelf its text or refusal is the answer's,

@@ -6,12 +6,22 @@ use Rattle.cc_first_runs.specs.Laws.{AreCallsOf}
 use Rattle.cc_first_runs.specs.Runs.{run}
 use Rattle.cc_first_runs.specs.Couplings.{Row}
 use Rattle.cc_first_runs.specs.Program.{Program, IsSite}
-use Rattle.cc_top.specs.Holds.{Holds}
+use Rattle.cc_first_list.specs.First.{IsFirst}
+use Rattle.cc_project.specs.Project.{Project as Checked}
+use Rattle.cc_project.specs.Outcome.{IsProject as IsChecked}
+use Rattle.cc_project.specs.WellMade.{file_names_of}
+use Rattle.cc_top.specs.Holds.{AllHold, Holds}
 use Rattle.cc_first.specs.Linked.{IsLinked}
 use Rattle.cc_first.specs.Listing.{AreLines, IsListing, header, line}
 use Rattle.cc_first.specs.Project.{Project, IsProject}
 use Rattle.cc_first.specs.Unit.{Part, IsUnit, program_of}
 use Rattle.cc_top.specs.Words.{list_words}
+
+-- the project of this name and its files can be had, and they are of the first form
+abbrev pub IsOfFirstForm : Files → List ℕ → Type 0
+IsOfFirstForm files name =
+    (bytes : List ℕ) × (project : Checked) × (contents : List (List ℕ)) × Holds files name bytes × IsChecked bytes project
+    × AllHold files (file_names_of project.files) contents × IsFirst bytes (file_names_of project.files) contents
 
 -- a project that the words name, with its files and the program that they make
 pub record Listed (words : List (List ℕ)) (files : Files) (text : List ℕ) : Type 0 where

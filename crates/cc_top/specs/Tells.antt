@@ -5,12 +5,11 @@ use Rattle.cc_io.specs.Shelf.{Files}
 use Rattle.cc_top.specs.Answer.{Reply, done, refused}
 use Rattle.cc_top.specs.Ends.{End, write_fault, memory}
 use Rattle.cc_top.specs.Ends as ends
-use Rattle.cc_first.specs.Project.{Project, IsProject}
 use Rattle.cc_top.specs.Refusal.{line_of, status_of, FaultNames}
-use Rattle.cc_project.specs.Project.{Project as Checked}
-use Rattle.cc_project.specs.Outcome.{IsProject as IsChecked}
+use Rattle.cc_project.specs.Project.{Project}
+use Rattle.cc_project.specs.Outcome.{IsProject}
 use Rattle.cc_project.specs.WellMade.{file_names_of}
-use Rattle.cc_top.specs.Reads.{IsFileName, MayBeReached}
+use Rattle.cc_top.specs.Reads.{MayBeReached}
 use Rattle.cc_top.specs.declared.refusal.Refusal.{Refusal}
 
 abbrev pub reply_of : Refusal → Reply
@@ -21,13 +20,9 @@ abbrev pub Tells : (Reply → Type 0) → Result (Vec ℕ Global) Refusal → Ty
 Tells P (Ok text) = P (done text.items)
 Tells P (Err refusal) = status_of refusal < 4 → P (reply_of refusal)
 
--- the name is that of a file of the project that the bytes say
-abbrev pub IsNamed : Files → List ℕ → List ℕ → Type 0
-IsNamed files bytes name = (project : Project) × IsProject bytes project × IsFileName files project name
-
 -- the name is that of a file of the project that the bytes say, and those before it can be had, or of one that is included
-abbrev pub IsNamedToCheck : Files → List ℕ → List ℕ → Type 0
-IsNamedToCheck files bytes name = (project : Checked) × IsChecked bytes project × MayBeReached files (file_names_of project.files) name
+abbrev pub IsNamed : Files → List ℕ → List ℕ → Type 0
+IsNamed files bytes name = (project : Project) × IsProject bytes project × MayBeReached files (file_names_of project.files) name
 
 -- what an end tells of the answer: the text, whole or in part, and a refusal of a status below 4
 abbrev pub EndTells : (Reply → Type 0) → End → Type 0

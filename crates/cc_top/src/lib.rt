@@ -8,6 +8,8 @@
 
 mod call;
 mod check;
+mod faults;
+mod list;
 mod reading;
 mod refusal;
 mod steps;

@@ -24,8 +24,6 @@ pub enum Refusal {
     Missing(Text),
     /// The file has more than 1,048,576 bytes.
     TooLong(Text),
-    /// The file isn't of the form that is built so far.
-    Unbuilt(Text),
     /// The project file is no TOML document.
     NotToml(Text),
     /// The project file breaks rule J`rule` at this key.
@@ -40,6 +38,12 @@ pub enum Refusal {
     Test { test: Text, call: u32, rule: u8 },
     /// The trees of the files have 2^30 nodes or more.
     TooManyNodes,
+    /// The program has more control points than there may be: this many.
+    TooManyPoints(u64),
+    /// The program has more points-to facts than there may be.
+    TooManyFacts,
+    /// The table would have more rows than there may be.
+    TooManyRows,
     /// A number that names nothing came back from a step: that it can't come isn't proved.
     Internal,
     /// Memory was wanting.
@@ -116,7 +120,6 @@ impl Refusal {
             Refusal::ReadFault(name) => format!(in alloc; "{name}: read fault\n"),
             Refusal::Missing(name) => format!(in alloc; "{name}: missing\n"),
             Refusal::TooLong(name) => format!(in alloc; "{name}: too long\n"),
-            Refusal::Unbuilt(name) => format!(in alloc; "{name}: form not built yet\n"),
             Refusal::NotToml(name) => format!(in alloc; "{name}: not TOML\n"),
             Refusal::Shape { name, key, rule } => format!(in alloc; "{name}: J{rule} {key}\n"),
             Refusal::At(at) => at.line(alloc),
@@ -126,6 +129,9 @@ impl Refusal {
             }
             Refusal::Test { test, call, rule } => test_line(alloc, test, *call, *rule),
             Refusal::TooManyNodes => String::from_str(alloc, "too many nodes\n"),
+            Refusal::TooManyPoints(count) => format!(in alloc; "too many control points: {count}\n"),
+            Refusal::TooManyFacts => String::from_str(alloc, "too many facts\n"),
+            Refusal::TooManyRows => String::from_str(alloc, "too many rows\n"),
             Refusal::Internal => String::from_str(alloc, "internal: a number without a name\n"),
             Refusal::Memory => String::from_str(alloc, "out of memory\n"),
         }

@@ -3,206 +3,120 @@
 // Each step that reads the shelf says this: the files stay (`keeps`), no count falls (`none_falls`), a refusal to read
 // comes only where its count rose (`caused`), and over a shelf that tells its files what the text or the refusal stands
 // for is what the definitions allow (`told`), and a read fault names a file that they may read (`names`).
-ghost use Rattle.std.specs.Prelude.{◌≡◌, ◌≢◌, ◌↔◌, ◌≤◌, ◌<◌, List, Err, IfErr, IfOk, IfSome, length, map, string_bytes};
-ghost use Rattle.cc_top.specs.Answer.{AfterRead, IsAnswer, OfCheck, OfFiles, OfProgram, OfProject};
-ghost use Rattle.cc_top.specs.Reads.{IsFileName, IsReadToList, MayBeReadToCheck, MayRead};
-ghost use Rattle.cc_first.specs.Project.{IsProject, IsWell, Project as ProjectData};
+ghost use Rattle.std.specs.Prelude.{◌≡◌, ◌≢◌, ◌↔◌, ◌≤◌, All, Err, IfErr, IfSome, length, map, string_bytes};
+ghost use Rattle.cc_project.specs.WellMade.{file_names_of};
+ghost use Rattle.cc_top.specs.Answer.{AfterFiles, AfterRead, IsAnswer, OfBytes, OfFiles};
 ghost use Rattle.cc_top.specs.Counts.{Caused, NoneFalls, counts_of};
-ghost use Rattle.cc_top.specs.Refusal.{FaultNames, IsOfForm, RefusesForm, status_of};
+ghost use Rattle.cc_top.specs.Holds.{IsShort};
+ghost use Rattle.cc_top.specs.Reads.{IsIncludedIn, MayBeReached, MayBeReadFor, MayRead};
+ghost use Rattle.cc_top.specs.Refusal.{FaultNames, status_of};
 ghost use Rattle.cc_top.specs.Tells.{IsNamed, Tells};
-ghost use Rattle.cc_first.specs.Unit.{HaveFreeNames, IsUnit, Part as PartData, program_of};
-ghost use Rattle.cc_first.specs.Views.{parts_view, project_view};
-ghost use Rattle.cc_first.specs.Limit.{limit};
 ghost use Rattle.cc_top.specs.Words.{IsNoCommand};
 
-use crate::check::document_checked;
-use crate::reading::{read_file, text_of};
+use crate::check::files_checked;
+use crate::faults::of_project;
+use crate::list::files_listed;
+use crate::reading::{read_file, read_files};
 use crate::refusal::Refusal;
-use crate::words::{Command, command_of};
-use cc_first::{Part, Project, read_document, read_project, read_unit, table};
-use cc_io::Shelf;
+use crate::words::{Task, command_of};
+use cc_base::List;
+use cc_io::{ByteList, Shelf};
+use cc_project::{Project, read_project};
 use std::alloc::Global;
 
-// The file's form is refused.
-fn unbuilt(alloc: Global, name: &str) -> Refusal
-    ensures { RefusesForm name.now result }
-{
-    match text_of(alloc, name) {
-        Ok(name) => Refusal::Unbuilt(name),
-        Err(_) => Refusal::Memory,
-    }
-}
-
-// The parts of a C file, or its refusal.
-fn unit_of<'a>(alloc: Global, name: &str, bytes: &'a [u8]) -> Result<Vec<Part<'a>>, Refusal>
-    requires { length bytes.now ≤ limit }
-    ensures unit { IfOk result (λ parts. IsUnit bytes.now (parts_view parts.items)) }
-    ensures form { IfErr result (RefusesForm name.now) }
-    ensures none { IfErr result (λ refusal. status_of refusal < 4
-        → (parts : List PartData) → IsUnit bytes.now parts → ⊥) }
-{
-    match read_unit(alloc, bytes) {
-        Ok(Some(parts)) => Ok(parts),
-        Ok(None) => Err(unbuilt(alloc, name)),
-        Err(_) => Err(Refusal::Memory),
-    }
-}
-
-// The table of two units.
-fn units_listing(
-    alloc: Global,
-    name: &str,
-    project: &Project<'_>,
-    first: &[Part<'_>],
-    second: &[Part<'_>],
-) -> Result<Vec<u8>, Refusal>
-    requires well { IsWell (project_view project.now) }
-    requires first { HaveFreeNames (parts_view first.now) }
-    requires second { HaveFreeNames (parts_view second.now) }
-    ensures told { Tells (OfProgram name.now (project_view project.now)
-        (program_of (parts_view first.now) (parts_view second.now))) result }
-    ensures form { IfErr result IsOfForm }
-{
-    match table(alloc, project, first, second) {
-        Ok(Some(text)) => Ok(text),
-        Ok(None) => Err(unbuilt(alloc, name)),
-        Err(_) => Err(Refusal::Memory),
-    }
-}
-
-// The table of two files that are read.
-fn files_listing(
-    alloc: Global,
-    name: &str,
-    project: &Project<'_>,
-    first: &[u8],
-    second: &[u8],
-) -> Result<Vec<u8>, Refusal>
-    requires well { IsWell (project_view project.now) }
-    requires first { length first.now ≤ limit }
-    requires second { length second.now ≤ limit }
-    ensures told { Tells (OfFiles name.now (project_view project.now) first.now second.now) result }
-    ensures form { IfErr result IsOfForm }
-{
-    let parts = match unit_of(alloc, project.first.file, first) {
-        Ok(parts) => parts,
-        Err(refusal) => return Err(refusal),
-    };
-    let others = match unit_of(alloc, project.second.file, second) {
-        Ok(parts) => parts,
-        Err(refusal) => return Err(refusal),
-    };
-    units_listing(alloc, name, project, &parts, &others)
-}
-
-// Reads the second file of the project, and lists both.
-fn second_listing<S: Shelf>(
+// The text for a task over files that are read, where these are the bytes of the project file.
+fn files_text<S: Shelf>(
     alloc: Global,
     shelf: &mut S,
-    name: &str,
-    project: &Project<'_>,
-    first: &[u8],
+    task: Task,
+    bytes: &[u8],
+    project: &Project,
+    files: &List<ByteList>,
 ) -> Result<Vec<u8>, Refusal>
-    requires well { IsWell (project_view project.now) }
-    requires first { length first.now ≤ limit }
+    requires few { length files.now ≤ 64 }
+    requires short { All IsShort files.now }
     ensures keeps { S.files shelf.new ≡ S.files shelf.old }
     ensures none_falls { NoneFalls (counts_of (S.faults shelf.old) (S.misses shelf.old) (S.longs shelf.old))
         (counts_of (S.faults shelf.new) (S.misses shelf.new) (S.longs shelf.new)) }
-    ensures told { IfSome (S.files shelf.old) (λ files. Tells (AfterRead files project.now.second.file.now
-        (OfFiles name.now (project_view project.now) first.now)) result) }
+    ensures told { Tells (OfFiles task bytes.now project.now files.now) result }
     ensures caused { IfErr result (Caused (counts_of (S.faults shelf.old) (S.misses shelf.old) (S.longs shelf.old))
         (counts_of (S.faults shelf.new) (S.misses shelf.new) (S.longs shelf.new))) }
     ensures kind { IfErr result (λ refusal. status_of refusal ≢ 2) }
-    ensures names { IfErr result (FaultNames (λ told. told ≡ project.now.second.file.now)) }
+    ensures names { IfSome (S.files shelf.old) (λ held. IfErr result
+        (FaultNames (IsIncludedIn held files.now))) }
 {
-    match read_file(alloc, shelf, project.second.file) {
-        Ok(second) => files_listing(alloc, name, project, first, second.bytes()),
-        Err(refusal) => Err(refusal),
+    match task {
+        Task::List => files_listed(alloc, shelf, bytes, project, files),
+        Task::Check => files_checked(alloc, shelf, project, files),
     }
 }
 
-// Reads both files of the project, and lists them.
-fn project_listing<S: Shelf>(
+// Reads the files of the project, and gives the text for a task over them.
+fn project_text<S: Shelf>(
     alloc: Global,
     shelf: &mut S,
-    name: &str,
-    project: &Project<'_>,
+    task: Task,
+    bytes: &[u8],
+    project: &Project,
 ) -> Result<Vec<u8>, Refusal>
-    requires well { IsWell (project_view project.now) }
     ensures keeps { S.files shelf.new ≡ S.files shelf.old }
     ensures none_falls { NoneFalls (counts_of (S.faults shelf.old) (S.misses shelf.old) (S.longs shelf.old))
         (counts_of (S.faults shelf.new) (S.misses shelf.new) (S.longs shelf.new)) }
-    ensures told { IfSome (S.files shelf.old) (λ files. Tells (AfterRead files project.now.first.file.now
-        (λ first. AfterRead files project.now.second.file.now (OfFiles name.now (project_view project.now) first))) result) }
+    ensures told { IfSome (S.files shelf.old) (λ files.
+        Tells (AfterFiles files (file_names_of project.now.files) (OfFiles task bytes.now project.now)) result) }
     ensures caused { IfErr result (Caused (counts_of (S.faults shelf.old) (S.misses shelf.old) (S.longs shelf.old))
         (counts_of (S.faults shelf.new) (S.misses shelf.new) (S.longs shelf.new))) }
     ensures kind { IfErr result (λ refusal. status_of refusal ≢ 2) }
     ensures names { IfSome (S.files shelf.old) (λ files. IfErr result
-        (FaultNames (IsFileName files (project_view project.now)))) }
+        (FaultNames (MayBeReached files (file_names_of project.now.files)))) }
 {
-    match read_file(alloc, shelf, project.first.file) {
-        Ok(first) => second_listing(alloc, shelf, name, project, first.bytes()),
+    match read_files(alloc, shelf, project.files.as_slice(), List::new(alloc)) {
+        Ok(files) => files_text(alloc, shelf, task, bytes, project, &files),
         Err(refusal) => Err(refusal),
     }
 }
 
-// Lists a project whose file is read.
-fn document_listing<S: Shelf>(
+// The text for a task over a project whose file is read.
+fn document_text<S: Shelf>(
     alloc: Global,
     shelf: &mut S,
+    task: Task,
     name: &str,
     bytes: &[u8],
 ) -> Result<Vec<u8>, Refusal>
     ensures keeps { S.files shelf.new ≡ S.files shelf.old }
     ensures none_falls { NoneFalls (counts_of (S.faults shelf.old) (S.misses shelf.old) (S.longs shelf.old))
         (counts_of (S.faults shelf.new) (S.misses shelf.new) (S.longs shelf.new)) }
-    ensures told { IfSome (S.files shelf.old) (λ files. Tells (OfProject files name.now bytes.now) result) }
+    ensures told { IfSome (S.files shelf.old) (λ files. Tells (OfBytes task files name.now bytes.now) result) }
     ensures caused { IfErr result (Caused (counts_of (S.faults shelf.old) (S.misses shelf.old) (S.longs shelf.old))
         (counts_of (S.faults shelf.new) (S.misses shelf.new) (S.longs shelf.new))) }
     ensures kind { IfErr result (λ refusal. status_of refusal ≢ 2) }
     ensures names { IfSome (S.files shelf.old) (λ files. IfErr result (FaultNames (IsNamed files bytes.now))) }
 {
-    let table = match read_document(alloc, bytes) {
-        Ok(Some(table)) => table,
-        Ok(None) => return Err(unbuilt(alloc, name)),
-        Err(_) => return Err(Refusal::Memory),
-    };
-    match read_project(&table) {
-        Some(project) => project_listing(alloc, shelf, name, &project),
-        None => Err(unbuilt(alloc, name)),
+    match read_project(alloc, bytes) {
+        Ok(project) => project_text(alloc, shelf, task, bytes, &project),
+        Err(fault) => Err(of_project(alloc, name, fault)),
     }
 }
 
-// The table of the project of this name.
-fn listed<S: Shelf>(alloc: Global, shelf: &mut S, name: &str) -> Result<Vec<u8>, Refusal>
+// The text for a task over the project of this name.
+fn task_text<S: Shelf>(
+    alloc: Global,
+    shelf: &mut S,
+    task: Task,
+    name: &str,
+) -> Result<Vec<u8>, Refusal>
     ensures keeps { S.files shelf.new ≡ S.files shelf.old }
     ensures none_falls { NoneFalls (counts_of (S.faults shelf.old) (S.misses shelf.old) (S.longs shelf.old))
         (counts_of (S.faults shelf.new) (S.misses shelf.new) (S.longs shelf.new)) }
-    ensures told { IfSome (S.files shelf.old) (λ files. Tells (AfterRead files name.now (OfProject files name.now)) result) }
+    ensures told { IfSome (S.files shelf.old) (λ files. Tells (AfterRead files name.now (OfBytes task files name.now)) result) }
     ensures caused { IfErr result (Caused (counts_of (S.faults shelf.old) (S.misses shelf.old) (S.longs shelf.old))
         (counts_of (S.faults shelf.new) (S.misses shelf.new) (S.longs shelf.new))) }
     ensures kind { IfErr result (λ refusal. status_of refusal ≢ 2) }
-    ensures names { IfSome (S.files shelf.old) (λ files. IfErr result (FaultNames (IsReadToList files name.now))) }
+    ensures names { IfSome (S.files shelf.old) (λ files. IfErr result (FaultNames (MayBeReadFor files name.now))) }
 {
     match read_file(alloc, shelf, name) {
-        Ok(file) => document_listing(alloc, shelf, name, file.bytes()),
-        Err(refusal) => Err(refusal),
-    }
-}
-
-// The counts of the project of this name.
-fn checked<S: Shelf>(alloc: Global, shelf: &mut S, name: &str) -> Result<Vec<u8>, Refusal>
-    ensures keeps { S.files shelf.new ≡ S.files shelf.old }
-    ensures none_falls { NoneFalls (counts_of (S.faults shelf.old) (S.misses shelf.old) (S.longs shelf.old))
-        (counts_of (S.faults shelf.new) (S.misses shelf.new) (S.longs shelf.new)) }
-    ensures told { IfSome (S.files shelf.old) (λ files. Tells (AfterRead files name.now (OfCheck files name.now)) result) }
-    ensures caused { IfErr result (Caused (counts_of (S.faults shelf.old) (S.misses shelf.old) (S.longs shelf.old))
-        (counts_of (S.faults shelf.new) (S.misses shelf.new) (S.longs shelf.new))) }
-    ensures kind { IfErr result (λ refusal. status_of refusal ≢ 2) }
-    ensures names { IfSome (S.files shelf.old) (λ files. IfErr result (FaultNames (MayBeReadToCheck files name.now))) }
-{
-    match read_file(alloc, shelf, name) {
-        Ok(file) => document_checked(alloc, shelf, name, file.bytes()),
+        Ok(file) => document_text(alloc, shelf, task, name, file.bytes()),
         Err(refusal) => Err(refusal),
     }
 }
@@ -227,8 +141,7 @@ pub fn text_for<S: Shelf>(
     ensures untouched { result ≡ Err Refusal.Usage → shelf.new ≡ shelf.old }
 {
     match command_of(words) {
-        Some(Command::List(project)) => listed(alloc, shelf, project),
-        Some(Command::Check(project)) => checked(alloc, shelf, project),
+        Some(command) => task_text(alloc, shelf, command.task, command.project),
         None => Err(Refusal::Usage),
     }
 }

@@ -1,14 +1,34 @@
 // The words of a command line.
 ghost use Rattle.std.specs.Prelude.{◌≡◌, ◌≢◌, ℕ, List, IfNone, IfSome, map, string_bytes};
-ghost use Rattle.cc_top.specs.Words.{IsCommand, IsNoCommand, check_words, project_words};
+ghost use Rattle.cc_top.specs.Words.{IsCommand, IsNoCommand, project_words, word_of, words_of};
 
-/// What the words ask for, with the name of a project file.
+/// What is asked of a project.
 #[derive(Clone, Copy)]
-pub enum Command<'a> {
-    /// The table of the couplings.
-    List(&'a str),
-    /// Whether the project is as it has to be.
-    Check(&'a str),
+pub enum Task {
+    /// The table of its couplings.
+    List,
+    /// Whether it is as it has to be.
+    Check,
+}
+
+/// What the words ask for.
+#[derive(Clone, Copy)]
+pub struct Command<'a> {
+    pub task: Task,
+    /// The name of the project file.
+    pub project: &'a str,
+}
+
+impl Task {
+    // The word that asks for it.
+    fn word(self) -> &'static str
+        ensures { result.now ≡ word_of self }
+    {
+        match self {
+            Task::List => "list",
+            Task::Check => "check",
+        }
+    }
 }
 
 // The word after this one, if there are these two.
@@ -32,13 +52,13 @@ fn project_word<'a>(words: &'a [String], word: &str) -> Option<&'a str>
     Some(project.as_str())
 }
 
-// The command of words that are none that lists.
-fn other_command(words: &[String]) -> Option<Command<'_>>
+// The command of words that ask for this.
+fn command_for(words: &[String], task: Task) -> Option<Command<'_>>
     ensures some { IfSome result (IsCommand (map string_bytes words.now)) }
-    ensures none { IfNone result ((project : List ℕ) → map string_bytes words.now ≢ check_words project) }
+    ensures none { IfNone result ((project : List ℕ) → map string_bytes words.now ≢ words_of task project) }
 {
-    match project_word(words, "check") {
-        Some(project) => Some(Command::Check(project)),
+    match project_word(words, task.word()) {
+        Some(project) => Some(Command { task, project }),
         None => None,
     }
 }
@@ -48,8 +68,8 @@ pub fn command_of(words: &[String]) -> Option<Command<'_>>
     ensures some { IfSome result (IsCommand (map string_bytes words.now)) }
     ensures none { IfNone result (IsNoCommand (map string_bytes words.now)) }
 {
-    match project_word(words, "list") {
-        Some(project) => Some(Command::List(project)),
-        None => other_command(words),
+    match command_for(words, Task::List) {
+        Some(command) => Some(command),
+        None => command_for(words, Task::Check),
     }
 }
