@@ -138,6 +138,7 @@ pub fn of_listing(fault: ListFault) -> Refusal
         ListFault::TooManyPoints { count } => Refusal::TooManyPoints(count),
         ListFault::TooManyFacts => Refusal::TooManyFacts,
         ListFault::TooManyRows => Refusal::TooManyRows,
+        ListFault::Internal => Refusal::Internal,
         ListFault::Memory => Refusal::Memory,
     }
 }
