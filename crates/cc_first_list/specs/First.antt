@@ -1,5 +1,5 @@
 -- Projects of the first form, and what is answered for them.
-use Rattle.std.specs.Prelude.{ℕ, ◌≡◌, ◌≤◌, ◌<◌, Bool, ◌==◌, ◌&&◌, nat_lt, if◌then◌else◌, List, [], ◌∷◌, Vec}
+use Rattle.std.specs.Prelude.{ℕ, ◌≡◌, ◌≤◌, ◌<◌, nat_lt, if◌then◌else◌, List, [], ◌∷◌, Vec}
 use Rattle.std.specs.declared.alloc.Global.{Global}
 use Rattle.cc_first.specs.Linked.{IsLinked}
 use Rattle.cc_first.specs.Listing.{IsListing}
@@ -35,8 +35,8 @@ abbrev pub limited : Vec ℕ Global → ℕ → Answer
 limited text count = if nat_lt most_points count then answer.TooManyPoints count else answer.Table text
 
 -- the files have these names
-abbrev pub are_named : Project → List ℕ → List ℕ → Bool
-are_named project first second = first == project.first.file && second == project.second.file
+abbrev pub AreNamed : Project → List ℕ → List ℕ → Type 0
+AreNamed project first second = (first ≡ project.first.file) × (second ≡ project.second.file)
 
 -- what is answered for a project of the first form
 abbrev pub Answers : List ℕ → List (List ℕ) → List (List ℕ) → Answer → Type 0

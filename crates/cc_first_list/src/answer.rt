@@ -1,5 +1,5 @@
 // What is answered for a project of the first form.
-ghost use Rattle.std.specs.Prelude.{◌≡◌, ◌≤◌, ◌∷◌, [], All, IfNone, IfOk, IfSome, length};
+ghost use Rattle.std.specs.Prelude.{◌≡◌, ◌≤◌, ◌∷◌, ◌↔◌, [], All, IfNone, IfOk, IfSome, IsTrue, length};
 ghost use Rattle.cc_first.specs.Limit.{limit};
 ghost use Rattle.cc_first.specs.Linked.{IsUnlinked};
 ghost use Rattle.cc_first.specs.Project.{IsWell};
@@ -81,7 +81,7 @@ fn files_answer(
 
 // Whether the files are named as the project says.
 fn are_named(project: &Project<'_>, first: &ProjectFile, second: &ProjectFile) -> bool
-    ensures { result ≡ spec.are_named (project_view project.now) first.now.name second.now.name }
+    ensures { IsTrue result ↔ spec.AreNamed (project_view project.now) first.now.name second.now.name }
 {
     first.name.as_str() == project.first.file && second.name.as_str() == project.second.file
 }
@@ -115,6 +115,17 @@ fn two_answer(
     }
 }
 
+// The two files, where there are two.
+fn two_of(files: &[ProjectFile]) -> Option<(&ProjectFile, &ProjectFile)>
+    ensures some { IfSome result (λ two. file_names_of files.now ≡ two.0.now.name ∷ two.1.now.name ∷ []) }
+    ensures none { IfNone result (length files.now ≡ 2 → ⊥) }
+{
+    match files {
+        [one, two] => Some((one, two)),
+        _ => None,
+    }
+}
+
 /// What is answered for a project file with these bytes, whose C files are these and have these contents; nothing where
 /// they are not of the first form. Needs contents of at most 1,048,576 bytes each. The error is want of memory.
 pub fn first_answer(
@@ -129,11 +140,11 @@ pub fn first_answer(
     ensures none { IfOk result (λ read. IfNone read
         (spec.IsFirst bytes.now (file_names_of files.now) contents.now → ⊥)) }
 {
-    let [one, two] = files else {
+    let Some(two) = two_of(files) else {
         return Ok(None);
     };
     let [first, second] = contents else {
         return Ok(None);
     };
-    two_answer(alloc, bytes, (one, two), (first.bytes(), second.bytes()))
+    two_answer(alloc, bytes, two, (first.bytes(), second.bytes()))
 }

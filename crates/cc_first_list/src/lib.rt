@@ -6,6 +6,7 @@
 #![tactic(auto)]
 
 mod answer;
+pub mod laws;
 mod points;
 
 pub use answer::{Answer, first_answer};

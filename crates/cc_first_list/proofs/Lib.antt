@@ -1,0 +1,3 @@
+pub mod OneCut
+pub mod OneUnit
+pub mod Forms
