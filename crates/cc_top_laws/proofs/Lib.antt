@@ -1,4 +1,2 @@
 pub mod OneAnswer
-pub mod OneCut
 pub mod OneListing
-pub mod OneUnit

@@ -1,22 +1,29 @@
--- Words have at most one answer, where bytes spell at most one file of the first form; an entry has at most one number.
-use Rattle.std.proofs.Common.{◌≡◌, ◌≢◌, ◌⊎◌, ◌<◌, ◌≤◌, ℕ, zero, suc, List, [], ◌∷◌, length, Option, Some, None, inl, inr, ⊎_elim, sym, ap, ◌∙◌, arith, subst}
-use Rattle.std.specs.Prelude.{AllPairs, MatchOption, slice_get, slice_index_or}
-use Rattle.std.specs.FinMap.{get}
+-- Words that are no command, and those that list a project of the first form, have at most one answer; an entry has at most one
+-- number.
+use Rattle.std.proofs.Common.{◌≡◌, ◌≢◌, ◌<◌, ◌≤◌, ℕ, zero, suc, List, [], ◌∷◌, Some, inl, inr, ⊎_elim, refl, sym, ap, ◌∙◌, arith, subst}
+use Rattle.std.specs.Prelude.{AllPairs, slice_get, slice_index_or}
 use Rattle.std.proofs.lemmas.Option.{same_Some, slice_get_within}
 use Rattle.std.proofs.lemmas.Bool.{cases_eq}
 use Rattle.cc_io.specs.Shelf.{Files}
 use Rattle.cc_first_runs.specs.Program.{Function, Program}
-use Rattle.cc_first.specs.Limit.{limit}
-use Rattle.cc_top.specs.Words.{IsNoCommand, check_words, list_words}
-use Rattle.cc_first.specs.Project.{Project}
-use Rattle.cc_first.specs.Unit.{Part, program_of}
-use Rattle.cc_first.specs.Linked.{IsWhole, IsEntry, heads_of}
+use Rattle.cc_first.specs.Linked.{IsWhole, IsEntry, IsLinked, heads_of}
 use Rattle.cc_first.specs.Listing.{IsListing}
-use Rattle.cc_top_laws.specs.Laws.{OneUnit, OneAnswer}
-use Rattle.cc_top.specs.Refusal.{missing_line, long_line, usage_line}
-use Rattle.cc_top.specs.Answer.{Reply, refused, done, AfterRead, AfterUnit, OfProgram, OfFiles, OfProject, IsAnswer}
-use Rattle.cc_top_laws.proofs.OneListing.{one_listing}
+use Rattle.cc_first.specs.Project.{Project}
+use Rattle.cc_first.specs.Unit.{Part, IsUnit, program_of}
 use Rattle.cc_first.proofs.OneProject.{same_project}
+use Rattle.cc_first_list.proofs.OneUnit.{one_unit}
+use Rattle.cc_first_list.specs.First.{IsFirst}
+use Rattle.cc_first_list.specs.Points.{points, most_points}
+use Rattle.cc_project.specs.WellMade.{file_names_of}
+use Rattle.cc_top.proofs.Reached.{asked, of_checked, past_files, past_read}
+use Rattle.cc_top.specs.Answer.{Reply, refused, done, OfBytes, OfFiles, OfFirst, OfListed, IsAnswer}
+use Rattle.cc_top.specs.Refusal.{points_line, usage_line}
+use Rattle.cc_top.specs.Sound.{IsOfFirstForm}
+use Rattle.cc_top.specs.Words.{IsNoCommand, list_words, words_of}
+use Rattle.cc_top.specs.declared.words.Task.{Task}
+use Rattle.cc_top.specs.declared.words.Task.TheVariants as task
+use Rattle.cc_top_laws.specs.Laws.{IsFixed, OneAnswer}
+use Rattle.cc_top_laws.proofs.OneListing.{one_listing}
 
 head_at : (program : Program) (e : ℕ) (function : Function) → slice_get program e ≡ Some function → slice_get (heads_of program) e ≡ Some function.head.text
 head_at [] e function h = absurd (let e = h in cc)
@@ -42,91 +49,66 @@ one_entry program entry d e whole p q =
     let above = apart (heads_of program) e d entry whole.once at_e at_d in
     absurd (omega (arith, ne, below, above))) (cases_eq d e)
 
-one_of_program : (name : List ℕ) (project : Project) (program : Program) (a b : Reply) → OfProgram name project program a → OfProgram name project program b → a ≡ b
-one_of_program name project program a b x y =
-    elim x [
-      | inl p ↦ elim y [ inl q ↦ p.1 ∙ sym q.1 | inr q ↦ absurd (p.0 q.0 q.1) ]
-      | inr p ↦ elim y [
-        | inl q ↦ absurd (q.0 p.0 p.1)
-        | inr q ↦
-            let same : p.0 ≡ q.0 = one_entry program project.entry p.0 q.0 p.1.0 p.1.1 q.1.1 in
-            let texts : p.2 ≡ q.2 = one_listing project program q.0 p.2 q.2 (subst (λ e. IsListing project program e p.2) same p.3) q.3 in
-            p.4 ∙ ap done texts ∙ sym q.4
-      ]
-    ]
+-- what is answered for the program of two files
+abbrev OfUnits : Project → List Part → List Part → ℕ → Reply → Type 0
+OfUnits project parts others entry reply =
+    ((points parts others ≤ most_points) × (text : List ℕ) × IsListing project (program_of parts others) entry text × (reply ≡ done text))
+    ⊎ ((most_points < points parts others) × (reply ≡ refused (points_line (points parts others)) 3))
 
-one_after_unit : OneUnit → (file bytes : List ℕ) (next : List Part → Reply → Type 0) (a b : Reply) → ((parts : List Part) → next parts a → next parts b → a ≡ b) → AfterUnit file bytes next a → AfterUnit file bytes next b → a ≡ b
-one_after_unit one_unit file bytes next a b one x y =
-    elim x [
-      | inl p ↦ elim y [ inl q ↦ p.1 ∙ sym q.1 | inr q ↦ absurd (p.0 q.0 q.1) ]
-      | inr p ↦ elim y [
-        | inl q ↦ absurd (q.0 p.0 p.1)
-        | inr q ↦ one q.0 (subst (λ parts. next parts a) (one_unit bytes p.0 q.0 p.1 q.1) p.2) q.2
-      ]
-    ]
+one_of_units : (project : Project) (parts others : List Part) (entry : ℕ) (a b : Reply) → OfUnits project parts others entry a → OfUnits project parts others entry b → a ≡ b
+one_of_units project parts others entry a b (inl p) (inl q) =
+    p.3 ∙ ap done (one_listing project (program_of parts others) entry p.1 q.1 p.2 q.2) ∙ sym q.3
+one_of_units project parts others entry a b (inl p) (inr q) = absurd (omega (arith, p.0, q.0))
+one_of_units project parts others entry a b (inr p) (inl q) = absurd (omega (arith, p.0, q.0))
+one_of_units project parts others entry a b (inr p) (inr q) = p.1 ∙ sym q.1
 
-abbrev Read : List ℕ → (List ℕ → Reply → Type 0) → Option (List ℕ) → Reply → Type 0
-Read name next o reply = MatchOption o (reply ≡ refused (missing_line name) 3) (λ bytes. ((limit < length bytes) × (reply ≡ refused (long_line name) 3)) ⊎ ((length bytes ≤ limit) × next bytes reply))
+same_two : (a b c d : List ℕ) → a ∷ b ∷ [] ≡ c ∷ d ∷ [] → (a ≡ c) × (b ≡ d)
+same_two a b c d e = (cc, cc)
 
-one_read : (name : List ℕ) (next : List ℕ → Reply → Type 0) (a b : Reply) → ((bytes : List ℕ) → next bytes a → next bytes b → a ≡ b) → (o : Option (List ℕ)) → Read name next o a → Read name next o b → a ≡ b
-one_read name next a b one None x y = x ∙ sym y
-one_read name next a b one (Some bytes) x y =
-    elim x [
-      | inl p ↦ elim y [ inl q ↦ p.1 ∙ sym q.1 | inr q ↦ absurd (omega (arith, p.0, q.0)) ]
-      | inr p ↦ elim y [ inl q ↦ absurd (omega (arith, p.0, q.0)) | inr q ↦ one bytes p.1 q.1 ]
-    ]
+-- what is answered for a project of the first form, read in one way, is answered for it in another
+moved : (bytes : List ℕ) (names contents : List (List ℕ)) (f g : IsFirst bytes names contents) (reply : Reply) → OfUnits f.project f.parts f.others f.entry reply
+    → OfUnits g.project g.parts g.others g.entry reply
+moved bytes names contents f g reply of =
+    let project : f.project ≡ g.project = same_project f.project g.project (same_Some _ _ (sym f.is_project.document ∙ g.is_project.document)) in
+    let both = same_two f.first f.second g.first g.second (sym f.are_contents ∙ g.are_contents) in
+    let parts : f.parts ≡ g.parts = one_unit g.first f.parts g.parts (subst (λ b. IsUnit b f.parts) both.0 f.first_unit) g.first_unit in
+    let others : f.others ≡ g.others = one_unit g.second f.others g.others (subst (λ b. IsUnit b f.others) both.1 f.second_unit) g.second_unit in
+    let linked : IsLinked (program_of g.parts g.others) g.project.entry f.entry =
+      subst (λ p. IsLinked (program_of g.parts g.others) p.entry f.entry) project
+      (subst (λ o. IsLinked (program_of g.parts o) f.project.entry f.entry) others
+      (subst (λ p. IsLinked (program_of p f.others) f.project.entry f.entry) parts f.linked)) in
+    let entry : f.entry ≡ g.entry = one_entry (program_of g.parts g.others) g.project.entry f.entry g.entry g.linked.0 linked.1 g.linked.1 in
+    subst (λ e. OfUnits g.project g.parts g.others e reply) entry
+    (subst (λ p. OfUnits p g.parts g.others f.entry reply) project
+    (subst (λ o. OfUnits f.project g.parts o f.entry reply) others
+    (subst (λ p. OfUnits f.project p f.others f.entry reply) parts of)))
 
-one_of_files : OneUnit → (name : List ℕ) (project : Project) (first second : List ℕ) (a b : Reply) → OfFiles name project first second a → OfFiles name project first second b → a ≡ b
-one_of_files one_unit name project first second a b =
-    one_after_unit one_unit project.first.file first (λ parts. AfterUnit project.second.file second (λ others. OfProgram name project (program_of parts others))) a b
-    (λ parts. one_after_unit one_unit project.second.file second (λ others. OfProgram name project (program_of parts others)) a b (λ others. one_of_program name project (program_of parts others) a b))
+-- the answer for a project of the first form, in one way to read it
+of_first : (files : Files) (name : List ℕ) (first : IsOfFirstForm files name) (reply : Reply) → IsAnswer (list_words name) files reply
+    → OfUnits first.6.project first.6.parts first.6.others first.6.entry reply
+of_first files name first reply answer =
+    let bytes = first.0 in
+    let checked = first.1 in
+    let contents = first.2 in
+    let names = file_names_of checked.files in
+    let read = past_read files name bytes (OfBytes task.List files name) reply first.3 (asked (list_words name) files task.List name reply refl answer) in
+    let after = of_checked task.List files name bytes checked reply first.4 read in
+    let of : OfListed bytes checked contents reply = past_files files names contents (OfFiles task.List bytes checked) reply first.5 after in
+    ⊎_elim (λ p. moved bytes names contents p.0 first.6 reply p.1) (λ p. absurd (p.0 first.6)) of
 
-abbrev Behind : Files → List ℕ → Project → Reply → Type 0
-Behind files name project = AfterRead files project.first.file (λ first. AfterRead files project.second.file (λ second. OfFiles name project first second))
+one_listed : (files : Files) (name : List ℕ) (a b : Reply) → IsOfFirstForm files name → IsAnswer (list_words name) files a → IsAnswer (list_words name) files b → a ≡ b
+one_listed files name a b first x y =
+    one_of_units first.6.project first.6.parts first.6.others first.6.entry a b (of_first files name first a x) (of_first files name first b y)
 
-one_behind : OneUnit → (files : Files) (name : List ℕ) (project : Project) (a b : Reply) → Behind files name project a → Behind files name project b → a ≡ b
-one_behind one_unit files name project a b =
-    one_read project.first.file (λ first. AfterRead files project.second.file (λ second. OfFiles name project first second)) a b
-    (λ first. one_read project.second.file (λ second. OfFiles name project first second) a b (λ second. one_of_files one_unit name project first second a b) (get files project.second.file))
-    (get files project.first.file)
+no_words : (words : List (List ℕ)) (t : Task) (name : List ℕ) → IsNoCommand words → words ≡ words_of t name → ⊥
+no_words words task.List name none is = (none name).0 is
+no_words words task.Check name none is = (none name).1 is
 
-one_of_project : OneUnit → (files : Files) (name bytes : List ℕ) (a b : Reply) → OfProject files name bytes a → OfProject files name bytes b → a ≡ b
-one_of_project one_unit files name bytes a b x y =
-    elim x [
-      | inl p ↦ elim y [ inl q ↦ p.1 ∙ sym q.1 | inr q ↦ absurd (p.0 q.0 q.1) ]
-      | inr p ↦ elim y [
-        | inl q ↦ absurd (q.0 p.0 p.1)
-        | inr q ↦
-            let same : p.0 ≡ q.0 = same_project p.0 q.0 (same_Some _ _ (sym p.1.document ∙ q.1.document)) in
-            one_behind one_unit files name q.0 a b (subst (λ project. Behind files name project a) same p.2) q.2
-      ]
-    ]
+usage : (words : List (List ℕ)) (files : Files) (a : Reply) → IsNoCommand words → IsAnswer words files a → a ≡ refused usage_line 2
+usage words files a none (inl p) = p.1
+usage words files a none (inr p) = absurd (no_words words p.0 p.1 none p.2)
 
-same_word : (p q : List ℕ) → list_words p ≡ list_words q → p ≡ q
-same_word p q e = cc
-
-other_words : {A : Type 0} (p q : List ℕ) → list_words p ≡ check_words q → A
-other_words p q e = absurd (let f = e in cc)
-
-one_listed : OneUnit → (words : List (List ℕ)) (files : Files) (name : List ℕ) (a b : Reply) → words ≡ list_words name → AfterRead files name (OfProject files name) a → IsAnswer words files b → a ≡ b
-one_listed one_unit words files name a b is x (inl q) = absurd ((q.0 name).0 is)
-one_listed one_unit words files name a b is x (inr (inl q)) =
-    let same : name ≡ q.0 = same_word name q.0 (sym is ∙ q.1) in
-    let of : AfterRead files q.0 (OfProject files q.0) a = subst (λ n. AfterRead files n (OfProject files n) a) same x in
-    one_read q.0 (OfProject files q.0) a b (λ bytes. one_of_project one_unit files q.0 bytes a b) (get files q.0) of q.2
-one_listed one_unit words files name a b is x (inr (inr q)) = other_words name q.0 (sym is ∙ q.1)
-
-one_usage : (words : List (List ℕ)) (files : Files) (a b : Reply) → IsNoCommand words → a ≡ refused usage_line 2 → IsAnswer words files b → a ≡ b
-one_usage words files a b none is (inl q) = is ∙ sym q.1
-one_usage words files a b none is (inr (inl q)) = absurd ((none q.0).0 q.1)
-one_usage words files a b none is (inr (inr q)) = absurd ((none q.0).1 q.1)
-
-pub one_answer : OneUnit → OneAnswer
-one_answer one_unit words other files a b x y =
-    elim x [
-      | inl p ↦ one_usage words files a b p.0 p.1 y
-      | inr q ↦ elim q [
-        | inl p ↦ one_listed one_unit words files p.0 a b p.1 p.2 y
-        | inr p ↦ absurd (other p.0 p.1)
-      ]
-    ]
+pub one_answer : OneAnswer
+one_answer words files a b (inl none) x y = usage words files a none x ∙ sym (usage words files b none y)
+one_answer words files a b (inr p) x y =
+    one_listed files p.0 a b p.2 (subst (λ w. IsAnswer w files a) p.1 x) (subst (λ w. IsAnswer w files b) p.1 y)

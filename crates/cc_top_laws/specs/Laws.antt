@@ -1,16 +1,14 @@
--- Laws of the definitions of the first form.
-use Rattle.std.specs.Prelude.{◌≡◌, ◌≢◌, ℕ, List}
+-- Laws of the answers of the top call.
+use Rattle.std.specs.Prelude.{◌≡◌, ◌⊎◌, ℕ, List}
 use Rattle.cc_io.specs.Shelf.{Files}
-use Rattle.cc_first.specs.Unit.{Part, IsUnit}
 use Rattle.cc_top.specs.Answer.{Reply, IsAnswer}
-use Rattle.cc_top.specs.Words.{check_words}
+use Rattle.cc_top.specs.Sound.{IsOfFirstForm}
+use Rattle.cc_top.specs.Words.{IsNoCommand, list_words}
 
--- bytes spell the parts of at most one file of the first form
-abbrev pub OneUnit : Type 0
-OneUnit = (bytes : List ℕ) (p q : List Part) → IsUnit bytes p → IsUnit bytes q → p ≡ q
+-- the words are no command, or they list a project that is of the first form
+abbrev pub IsFixed : List (List ℕ) → Files → Type 0
+IsFixed words files = IsNoCommand words ⊎ ((name : List ℕ) × (words ≡ list_words name) × IsOfFirstForm files name)
 
--- words other than those of `check` have at most one answer over files
+-- such words have at most one answer over the files
 abbrev pub OneAnswer : Type 0
-OneAnswer =
-    (words : List (List ℕ)) → ((project : List ℕ) → words ≢ check_words project)
-    → (files : Files) (a b : Reply) → IsAnswer words files a → IsAnswer words files b → a ≡ b
+OneAnswer = (words : List (List ℕ)) (files : Files) (a b : Reply) → IsFixed words files → IsAnswer words files a → IsAnswer words files b → a ≡ b
