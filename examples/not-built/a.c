@@ -1,2 +1,0 @@
-void g(void);
-void f(void) { g(); }
