@@ -26,8 +26,6 @@ const LISTING: &str = "row,kind,from,to,definition,use,name\n1,call,A,B,a.c:2:16
 
 const USAGE: &str = "usage: coupling check|list|score|tests|pairs P | gen N\n";
 
-const UNBUILT: &str = "p.toml: form not built yet\n";
-
 // Each macro has the one before twice: the last stands for 2^21 tokens.
 const DOUBLING: &str =
     "#define A x\n#define B A A\n#define C B B\n#define D C C\n#define E D D\n#define F E E\n#define G F F\n#define H G G\n#define I H H\n#define J I I\n#define K J J\n#define L K K\n#define M L L\n#define N M M\n#define O N N\n#define P O O\n#define Q P P\n#define R Q Q\n#define S R R\n#define T S S\n#define U T T\n#define V U U\nint V;\n";
@@ -97,46 +95,57 @@ fn tables(rt: HostRuntime) -> Result<(), Fail> {
     Ok(())
 }
 
-// Files that are not of the first form; the first such file is what is refused.
+// Files that are not of the first form: they are read as any others.
 #[test]
-fn refused_files(rt: HostRuntime) -> Result<(), Fail> {
+fn other_files(rt: HostRuntime) -> Result<(), Fail> {
     let cases = [
-        (A, "int g;", "b.c: form not built yet\n"),
+        (A, "int g;", "", "b.c:1:5: link K1\n", 3),
         // A name that doesn't stand earlier in the second file.
         (
             "void x(void);void y(void);void k(void){}\nvoid f(void){k();x();y();}",
             "void f(void);\nvoid z(void){y();}",
-            "b.c: form not built yet\n",
+            "",
+            "b.c:2:14: offence C35\n",
+            3,
         ),
-        ("/* */ void f(void) { }", B, "a.c: form not built yet\n"),
-        ("# 1 \"a.c\"\n", "int g;", "a.c: form not built yet\n"),
-        ("void f(void) { g(); }\n", B, "a.c: form not built yet\n"),
-        ("void f(void) { g()", B, "a.c: form not built yet\n"),
-        ("void while(void) { }", B, "a.c: form not built yet\n"),
-        ("void asm(void) { }", B, "a.c: form not built yet\n"),
-        ("voidf(void) { }", B, "a.c: form not built yet\n"),
+        ("/* */ void f(void) { }", B, HEADER, "", 0),
+        ("# 1 \"a.c\"\n", "int g;", "", "entry f: link K6\n", 3),
+        ("void f(void) { g()", B, "", "a.c:1:19: syntax\n", 3),
+        ("void asm(void) { }", B, "", "a.c:1:6: offence C14\n", 3),
+        (
+            "int v;\nvoid g(void);\nvoid f(void) { v = 7; g(); }\n",
+            "extern int v;\nint w;\nvoid g(void) { w = v; }\n",
+            "row,kind,from,to,definition,use,name\n1,call,A,B,a.c:3:23,b.c:3:6,g\n2,shared,A,B,a.c:3:16,b.c:3:20,v\n",
+            "",
+            0,
+        ),
     ];
-    for (a, b, err) in cases {
-        assert!(rt; lists(rt.alloc(), PROJECT, a, b, "", err, 3)?, "{a}{b}");
+    for (a, b, out, err, status) in cases {
+        assert!(rt; lists(rt.alloc(), PROJECT, a, b, out, err, status)?, "{a}{b}");
     }
     Ok(())
 }
 
-// Projects that are not of the first form, and files that make no whole program.
+// Projects that are refused, and files that make no whole program.
 #[test]
 fn refused_projects(rt: HostRuntime) -> Result<(), Fail> {
     let cases = [
-        (PROJECT, A, ""),
-        (PROJECT, A, "void g(void) { } void f(void) { }"),
-        (PROJECT, "", B),
-        (SAME_NAME, A, B),
-        (SAME_FILE, A, B),
-        ("format = ", A, B),
-        ("", A, B),
+        (PROJECT, A, "", "a.c:2:16: link K3\n"),
+        (
+            PROJECT,
+            A,
+            "void g(void) { } void f(void) { }",
+            "b.c:1:23: link K2\n",
+        ),
+        (PROJECT, "", B, "entry f: link K6\n"),
+        (SAME_NAME, A, B, "p.toml: J4 component[1].name\n"),
+        (SAME_FILE, A, B, "p.toml: J6 component[1].files[0]\n"),
+        ("format = ", A, B, "p.toml: not TOML\n"),
+        ("", A, B, "p.toml: J1 format\n"),
     ];
-    for (project, a, b) in cases {
+    for (project, a, b, err) in cases {
         assert!(rt;
-            lists(rt.alloc(), project, a, b, "", UNBUILT, 3)?,
+            lists(rt.alloc(), project, a, b, "", err, 3)?,
             "{project}{a}{b}"
         );
     }
@@ -177,7 +186,7 @@ fn files(rt: HostRuntime) -> Result<(), Fail> {
         ("p.toml", "b.c: missing\n"),
         ("q.toml", "q.toml: missing\n"),
         ("long.toml", "long.toml: too long\n"),
-        ("blank.toml", "blank.toml: form not built yet\n"),
+        ("blank.toml", "blank.toml: J1 format\n"),
     ];
     for (project, err) in cases {
         assert!(rt;
