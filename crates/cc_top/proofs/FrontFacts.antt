@@ -1,5 +1,5 @@
 -- The refusals that faults of the front end are.
-use Rattle.std.proofs.Common.{◌≡◌, ◌≢◌, ℕ, List, Option, Some, None, IfSome, sym, subst, inl, inr, arith}
+use Rattle.std.proofs.Common.{◌≢◌, ℕ, List, Option, Some, None, IfSome, sym, subst, inl, inr, arith}
 use Rattle.std.specs.Prelude.{Contains}
 use Rattle.cc_front.specs.Faults.{IsCaused, IsToldIn}
 use Rattle.cc_front.specs.declared.fault.FrontFault.{FrontFault}

@@ -1,6 +1,8 @@
 -- What a text or a refusal tells of the answer.
 use Rattle.std.specs.Prelude.{◌<◌, ℕ, List, Result, Ok, Err, Vec}
 use Rattle.std.specs.declared.alloc.Global.{Global}
+use Rattle.cc_first_list.specs.declared.answer.Answer.{Answer}
+use Rattle.cc_first_list.specs.declared.answer.Answer.TheVariants as answer
 use Rattle.cc_io.specs.Shelf.{Files}
 use Rattle.cc_top.specs.Answer.{Reply, done, refused}
 use Rattle.cc_top.specs.Ends.{End, write_fault, memory}
@@ -11,9 +13,15 @@ use Rattle.cc_project.specs.Outcome.{IsProject}
 use Rattle.cc_project.specs.WellMade.{file_names_of}
 use Rattle.cc_top.specs.Reads.{MayBeReached}
 use Rattle.cc_top.specs.declared.refusal.Refusal.{Refusal}
+use Rattle.cc_top.specs.declared.refusal.Refusal.TheVariants.{TooManyPoints}
 
 abbrev pub reply_of : Refusal → Reply
 reply_of refusal = refused (line_of refusal) (status_of refusal)
+
+-- what is answered for a project of the first form, as a text or a refusal
+abbrev pub answered : Answer → Result (Vec ℕ Global) Refusal
+answered (answer.Table text) = Ok text
+answered (answer.TooManyPoints count) = Err (TooManyPoints count)
 
 -- P holds of the reply that a text stands for, or that a refusal of a status below 4 stands for
 abbrev pub Tells : (Reply → Type 0) → Result (Vec ℕ Global) Refusal → Type 0

@@ -74,9 +74,8 @@ pub fn run<S: Shelf, K: Sink, E: Sink>(
         RefusesReached (map string_bytes words.now) files
         (K.held out.old) (K.held out.new) (E.held err.old) (E.held err.new) result) }
 
-    // Soundness of `list` for projects of the first form: where the status is 0, an out that tells its bytes has the table of a
-    // program that the files make, and each call coupling that any run of this program exercises, whatever calls of the entry
-    // and turns, has its line in it.
+    // Soundness of `list`: where the status is 0, an out that tells its bytes has the table of a program that the files make, and each
+    // call coupling that any run of this program exercises, whatever calls of the entry and turns, has its line in it.
     ensures sound { IfSome (S.files shelf.old) (λ files. Covers (map string_bytes words.now) files
         (K.held out.old) (K.held out.new) result) }
 

@@ -1,9 +1,9 @@
 //! The top call: the words of a command line and the files of a shelf, answered by text on a sink and a status.
 //!
-//! [`run`] is all that a program needs. The words `check P` and `list P` are built so far (docs/front.md, docs/rows.md). For
-//! projects of the first form (docs/first-form.md) what `list` answers is proved as a whole.
-//! `steps` reads the files in their order and hands them to `check` or `list`, `faults` and `refusal` have the ways to give
-//! up, and `call` hands the text over.
+//! [`run`] is all that a program needs. What is built so far is `list P` for projects of the first form (docs/first-form.md):
+//! two components of one file each, whose functions have no parameters and call each other.
+//! `steps` joins the reading of the files and the work of `cc_first` on them in their order, `refusal` has the ways to
+//! give up, and `call` hands the text over.
 #![tactic(auto)]
 
 mod call;

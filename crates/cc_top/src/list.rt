@@ -7,8 +7,9 @@ ghost use Rattle.cc_top.specs.Answer.{OfListed, OfWhole};
 ghost use Rattle.cc_top.specs.Counts.{Caused, NoneFalls, counts_of};
 ghost use Rattle.cc_top.specs.Holds.{IsShort};
 ghost use Rattle.cc_top.specs.Reads.{IsIncludedIn};
-ghost use Rattle.cc_top.specs.Refusal.{FaultNames, status_of};
+ghost use Rattle.cc_top.specs.Refusal.{FaultNames, IsOfInput, status_of};
 ghost use Rattle.cc_top.specs.Tells.{Tells};
+ghost use Rattle.cc_top.specs.Tells as spec;
 
 use crate::faults::{of_front, of_listing};
 use crate::refusal::Refusal;
@@ -68,6 +69,17 @@ fn whole_listed<S: Shelf>(
     }
 }
 
+// What is answered for a project of the first form.
+fn answered(answer: Answer) -> Result<Vec<u8>, Refusal>
+    ensures is { result ≡ spec.answered answer }
+    ensures input { IfErr result IsOfInput }
+{
+    match answer {
+        Answer::Table(text) => Ok(text),
+        Answer::TooManyPoints(count) => Err(Refusal::TooManyPoints(count)),
+    }
+}
+
 /// The table of files that are read, where these are the bytes of the project file.
 pub fn files_listed<S: Shelf>(
     alloc: Global,
@@ -89,8 +101,7 @@ pub fn files_listed<S: Shelf>(
         (FaultNames (IsIncludedIn held files.now))) }
 {
     match first_answer(alloc, bytes, project.files.as_slice(), files.as_slice()) {
-        Ok(Some(Answer::Table(text))) => Ok(text),
-        Ok(Some(Answer::TooManyPoints(count))) => Err(Refusal::TooManyPoints(count)),
+        Ok(Some(answer)) => answered(answer),
         Ok(None) => whole_listed(alloc, shelf, project, files),
         Err(_) => Err(Refusal::Memory),
     }

@@ -1,0 +1,10 @@
+pub mod Lists
+pub mod Tabling
+pub mod Joining
+pub mod Asking
+pub mod Stepped
+pub mod Callees
+pub mod Owning
+pub mod Reaching
+pub mod Living
+pub mod Crossed

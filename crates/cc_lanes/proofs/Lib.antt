@@ -1,0 +1,5 @@
+pub mod Listing
+pub mod Pairing
+pub mod Spreads
+pub mod Connecting
+pub mod Joining

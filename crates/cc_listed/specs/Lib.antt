@@ -1,0 +1,4 @@
+pub mod Tabled
+pub mod Stretches
+pub mod Listed
+pub mod CallsListed

@@ -1,0 +1,12 @@
+pub mod Numbering
+pub mod Grouping
+pub mod Firsts
+pub mod Sourcing
+pub mod Finding
+pub mod Leading
+pub mod Calling
+pub mod Passings
+pub mod Givens
+pub mod Ordering
+pub mod Parting
+pub mod Joining

@@ -1,0 +1,7 @@
+use Rattle.std.proofs.Common.{take}
+use Rattle.cc_rows.specs.Gains.{Gains, Each}
+use Rattle.cc_listing_calls.specs.Givings.{IsCallOf}
+use Rattle.cc_listing_calls.proofs.giving.add_calls.Given as goal
+
+abbrev pub invariant-loop-call : goal.invariant-loop-call
+invariant-loop-call l = Gains l.initial.rows.items l.rows.items (Each (take l.call-index l.calls) IsCallOf)

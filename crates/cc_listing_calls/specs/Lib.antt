@@ -1,0 +1,10 @@
+pub mod Numbered
+pub mod Groups
+pub mod Views
+pub mod Founds
+pub mod Onward
+pub mod Live
+pub mod ListedCalls
+pub mod Rows
+pub mod Givings
+pub mod Adding

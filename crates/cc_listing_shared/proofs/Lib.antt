@@ -1,0 +1,5 @@
+pub mod Truth
+pub mod Reaching
+pub mod Wiping
+pub mod Rowing
+pub mod Law

@@ -1,0 +1,4 @@
+pub mod AskedFacts
+pub mod SlotLaws
+pub mod EventSteps
+pub mod Moves

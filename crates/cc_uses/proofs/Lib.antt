@@ -1,0 +1,9 @@
+pub mod Descending
+pub mod Skipping
+pub mod NextParts
+pub mod Gaining
+pub mod Having
+pub mod Written
+pub mod ReadBy
+pub mod GivenBy
+pub mod Pointing
