@@ -23,7 +23,7 @@ fn push_entries(
 {
     for f in entries {
         join(pairs, graph.len(), Some(0), graph.entry(*f))?;
-        join(pairs, graph.len(), graph.entry(*f), Some(0))?;
+        join(pairs, graph.len(), graph.exit(*f), Some(0))?;
     }
     Ok(())
 }

@@ -80,7 +80,7 @@ module _ (next within : Next) (root : ℕ) (T : Tables) (writes given passed rea
       let m = more within stay in (
         map shared_row m.0,
         sorted m.0 m.1,
-        omega (arith, length-map shared_row m.0, m.2),
+        omega (arith, length-map m.0 shared_row, m.2),
         λ x is. (let w = map_only shared_row m.0 x is in subst (IsListed G T A C) w.2 (m.3 w.0 w.1)),
       )
 

@@ -5,4 +5,4 @@ use Rattle.cc_score.specs.Marks.{mark, has_reason}
 use Rattle.cc_score.proofs.criteria.lacks_reason.Given as goal
 
 abbrev pub invariant-loop-i : goal.invariant-loop-i
-invariant-loop-i l = (row : ℕ) → l.group.start ≤ row → row < l.i → not (has_reason (option_copied l.reasons) row) ≡ false
+invariant-loop-i l = (row : ℕ) → l.fn.group.start ≤ row → row < l.i → not (has_reason (option_copied l.reasons) row) ≡ false
