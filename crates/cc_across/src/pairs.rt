@@ -12,7 +12,7 @@ use std::alloc::Global;
 fn join_at(pairs: &mut Vec<(u32, u32)>, count: u32, p: u32, q: u32) -> Result<(), Memory>
     ensures { OnOk result (pairs.new.items ≡ spec.joined_at count p q pairs.old.items) }
 {
-    if p < count {
+    if p < count && q < count {
         pairs.push((p, q))?;
     }
     Ok(())

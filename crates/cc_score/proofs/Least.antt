@@ -3,7 +3,7 @@ use Rattle.std.proofs.Common.{◌≡◌, ◌≢◌, ℕ, zero, suc, ◌<◌, ◌
 use Rattle.std.specs.Prelude.{nat_lt, length, IfSome, IfNone}
 use Rattle.std.proofs.lemmas.Bool.{cases_lt, ltb-true, lt-ltb}
 use Rattle.cc_meaning.specs.declared.score.RowReason.{RowReason}
-use Rattle.cc_score.specs.declared.clash.Conflict.{Conflict}
+use Rattle.cc_score.specs.declared.clashing.Conflict.{Conflict}
 use Rattle.cc_score.specs.Marks.{mark, reason}
 use Rattle.cc_score.specs.Conflicts.{Clashes, IsLeast, both, at, less, least_to}
 

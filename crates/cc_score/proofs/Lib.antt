@@ -1,5 +1,2 @@
-pub mod Found
 pub mod Least
-pub mod Mark
 pub mod More
-pub mod Search

@@ -17,3 +17,15 @@ module _ (rows : List Coupling) (marks : List (Option ℕ)) (reasons : Option (L
 
 pub least_more : (marks : List (Option ℕ)) (reasons : List (Option RowReason)) (count : ℕ) → conflicts.least_to marks reasons (count + 1) ≡ conflicts.less (conflicts.least_to marks reasons count) (conflicts.at marks reasons count)
 least_more marks reasons count = let e : count + 1 ≡ suc count = omega arith in ap (conflicts.least_to marks reasons) e
+
+-- the same before the last of the first rows
+pub occurs_before : (rows : List Coupling) (wanted i : ℕ) → 0 < i → spec.occurs_to rows wanted i ≡ cond (spec.defines (slice_get rows (i - 1)) wanted) true (spec.occurs_to rows wanted (i - 1))
+occurs_before rows wanted i h = let e : i ≡ suc (i - 1) = omega arith in ap (spec.occurs_to rows wanted) e
+
+pub marked_before : (rows : List Coupling) (marks : List (Option ℕ)) (wanted i : ℕ) → 0 < i
+    → spec.marked_to rows marks wanted i ≡ cond (spec.defines (slice_get rows (i - 1)) wanted && is_some (mark marks (i - 1))) true (spec.marked_to rows marks wanted (i - 1))
+marked_before rows marks wanted i h = let e : i ≡ suc (i - 1) = omega arith in ap (spec.marked_to rows marks wanted) e
+
+pub reasoned_before : (rows : List Coupling) (reasons : Option (List (Option RowReason))) (wanted i : ℕ) → 0 < i
+    → spec.reasoned_to rows reasons wanted i ≡ cond (spec.defines (slice_get rows (i - 1)) wanted && not (has_reason reasons (i - 1))) false (spec.reasoned_to rows reasons wanted (i - 1))
+reasoned_before rows reasons wanted i h = let e : i ≡ suc (i - 1) = omega arith in ap (spec.reasoned_to rows reasons wanted) e

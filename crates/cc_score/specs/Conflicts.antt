@@ -1,7 +1,7 @@
 -- Rows that are both justified and exercised.
 use Rattle.std.specs.Prelude.{◌≡◌, ◌<◌, ◌≤◌, ◌⊎◌, ℕ, zero, suc, List, Bool, true, false, cond, nat_lt, Option, Some, None}
 use Rattle.cc_meaning.specs.declared.score.RowReason.{RowReason}
-use Rattle.cc_score.specs.declared.clash.Conflict.{Conflict}
+use Rattle.cc_score.specs.declared.clashing.Conflict.{Conflict}
 use Rattle.cc_score.specs.Marks.{mark, reason}
 
 -- the row has a reason by the justification of this number, and a mark by the test of that one

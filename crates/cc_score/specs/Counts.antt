@@ -5,7 +5,6 @@ use Rattle.cc_meaning.specs.declared.coupling.Coupling.TheVariants.{Call, Shared
 use Rattle.cc_meaning.specs.declared.score.RowReason.{RowReason}
 use Rattle.cc_meaning.specs.declared.score.Verdict.{Verdict}
 use Rattle.cc_meaning.specs.declared.score.Verdicts.{Verdicts}
-use Rattle.cc_score.specs.Any.{any_to}
 use Rattle.cc_score.specs.Marks.{mark, has_reason}
 
 -- the definition of a row that is no call row
@@ -58,15 +57,20 @@ defines None wanted = false
 
 -- one of the first `count` rows has the definition
 abbrev pub occurs_to : List Coupling → (wanted count : ℕ) → Bool
-occurs_to rows wanted count = any_to (λ row. defines (slice_get rows row) wanted) count
+occurs_to rows wanted zero = false
+occurs_to rows wanted (suc count) = cond (defines (slice_get rows count) wanted) true (occurs_to rows wanted count)
 
 -- one of the first `count` rows has the definition and a mark
 abbrev pub marked_to : List Coupling → List (Option ℕ) → (wanted count : ℕ) → Bool
-marked_to rows marks wanted count = any_to (λ row. defines (slice_get rows row) wanted && is_some (mark marks row)) count
+marked_to rows marks wanted zero = false
+marked_to rows marks wanted (suc count) =
+    cond (defines (slice_get rows count) wanted && is_some (mark marks count)) true (marked_to rows marks wanted count)
 
 -- each of the first `count` rows that has the definition has a reason
 abbrev pub reasoned_to : List Coupling → Option (List (Option RowReason)) → (wanted count : ℕ) → Bool
-reasoned_to rows reasons wanted count = not (any_to (λ row. defines (slice_get rows row) wanted && not (has_reason reasons row)) count)
+reasoned_to rows reasons wanted zero = true
+reasoned_to rows reasons wanted (suc count) =
+    cond (defines (slice_get rows count) wanted && not (has_reason reasons count)) false (reasoned_to rows reasons wanted count)
 
 abbrev pub definition_of : Option Coupling → Option ℕ
 definition_of (Some row) = definition row

@@ -3,9 +3,19 @@ ghost use Rattle.std.specs.Prelude.{◌≡◌, ◌<◌, ◌^◌, ℕ, IfNone, If
 ghost use Rattle.cc_score.specs.Conflicts as spec;
 ghost use Rattle.cc_score.specs.Conflicts.{Clashes, IsLeast};
 
-use crate::clash::Conflict;
 use crate::marks::{mark, reason};
 use cc_meaning::{RowReasons, Scores};
+
+/// A row that has a reason and is exercised by a test.
+#[derive(Clone, Copy, Debug, PartialEq, Eq)]
+pub struct Conflict {
+    /// The number of the justification, from 0.
+    pub index: u32,
+    /// The number of the row, from 0.
+    pub row: u32,
+    /// The number of the first test that exercises the row.
+    pub test: u32,
+}
 
 /// The row with a reason and a mark whose justification is the least, and of such rows the least. Takes no memory.
 #[tactic(auto, using(crate::proofs::More::least_more, crate::proofs::Least::found, crate::proofs::Least::missing))]

@@ -1,22 +1,16 @@
 // The three criteria.
-ghost use Rattle.std.specs.Prelude.{◌≡◌, ◌<◌, ◌≤◌, ◌-◌, ◌^◌, ◌&&◌, ◌||◌, Some, is_some, length, nat_lt, not, slice_get};
+ghost use Rattle.std.specs.Prelude.{◌≡◌, ◌<◌, ◌≤◌, ◌-◌, ◌^◌, Some, length, slice_get};
 ghost use Rattle.std.specs.Option.{option_copied};
-ghost use Rattle.cc_score.specs.Any.{Finds};
 ghost use Rattle.cc_score.specs.Counts as spec;
-ghost use Rattle.cc_score.specs.Groups.{inside};
-ghost use Rattle.cc_score.specs.Marks as marks;
-ghost use Rattle.cc_score.specs.Order.{IsOrdered};
 
-use crate::groups::{Group, rows_of};
 use crate::marks::{has_reason, mark};
 use cc_meaning::{Coupling, Listing, RowReasons, Scores, Verdict, Verdicts};
 
 /// How much of a listing is covered: of the call rows, of the definitions of all other rows, and of these rows. A row is
 /// covered where it has a mark, and justified where it has a reason and no mark. A definition is covered where a row of it
-/// is, and justified where none is and each has a reason. Where `reasons` is not given, nothing is justified. Rows stand by
-/// kind and, past the calls, by definition. Takes no memory.
+/// is, and justified where none is and each has a reason. Where `reasons` is not given, nothing is justified. Takes no
+/// memory.
 pub fn verdicts(listing: &Listing, scores: &Scores, reasons: Option<&RowReasons>) -> Verdicts
-    requires { IsOrdered listing.now }
     ensures { result ≡ spec.verdicts listing.now scores.now.marks (option_copied reasons.entry) }
 {
     Verdicts {
@@ -95,84 +89,68 @@ fn rows_verdict(
     verdict
 }
 
-// Whether a row of the group stands before the row of this number.
-#[tactic(auto, using(crate::proofs::Found::seen_in))]
-fn is_seen(group: Group, row: u32) -> bool
-    ensures { Finds (λ i. nat_lt i row && inside group i) result }
+// Whether the row of this number has the definition.
+fn defines(listing: &Listing, row: u32, wanted: u32) -> bool
+    requires { row < length listing.now }
+    ensures { result ≡ spec.defines (slice_get listing.now row) wanted }
 {
-    group.start < group.end && group.start < row
+    match definition(listing.row(row)) {
+        Some(definition) => definition == wanted,
+        None => false,
+    }
 }
 
-// Whether a row of the group has a mark.
-fn has_mark(scores: &Scores, group: Group) -> bool
-    ensures { Finds (λ i. inside group i && is_some (marks.mark scores.now.marks i)) result }
+// Whether one of the first `count` rows has the definition.
+#[tactic(auto, using(crate::proofs::More::occurs_before))]
+fn occurs(listing: &Listing, count: u32, wanted: u32) -> bool
+    requires { count ≤ length listing.now }
+    ensures { result ≡ spec.occurs_to listing.now wanted count }
 {
-    for i in group.start..group.end {
-        if mark(scores, i).is_some() {
+    let mut i = count;
+    while i > 0 {
+        i -= 1;
+        if defines(listing, i, wanted) {
             return true;
         }
     }
     false
 }
 
-// Whether a row of the group has no reason.
-fn lacks_reason(reasons: Option<&RowReasons>, group: Group) -> bool
-    ensures { Finds (λ i. inside group i && not (marks.has_reason (option_copied reasons.entry) i)) result }
+// Whether one of the first `count` rows has the definition and a mark.
+#[tactic(auto, using(crate::proofs::More::marked_before))]
+fn is_marked(listing: &Listing, scores: &Scores, count: u32, wanted: u32) -> bool
+    requires { count ≤ length listing.now }
+    ensures { result ≡ spec.marked_to listing.now scores.now.marks wanted count }
 {
-    for i in group.start..group.end {
-        if !has_reason(reasons, i) {
+    let mut i = count;
+    while i > 0 {
+        i -= 1;
+        if defines(listing, i, wanted) && mark(scores, i).is_some() {
             return true;
         }
     }
     false
 }
 
-fn is_any(a: bool, b: bool, c: bool) -> bool
-    ensures { result ≡ (a || (b || c)) }
+// Whether each of the first `count` rows that has the definition has a reason.
+#[tactic(auto, using(crate::proofs::More::reasoned_before))]
+fn is_reasoned(listing: &Listing, reasons: Option<&RowReasons>, count: u32, wanted: u32) -> bool
+    requires { count ≤ length listing.now }
+    ensures { result ≡ spec.reasoned_to listing.now (option_copied reasons.entry) wanted count }
 {
-    a || b || c
-}
-
-// Whether an earlier row has the definition.
-fn occurs(listing: &Listing, row: u32, wanted: u32) -> bool
-    requires { IsOrdered listing.now }
-    ensures { result ≡ spec.occurs_to listing.now wanted row }
-{
-    let rows = rows_of(listing, wanted);
-    let shared = is_seen(rows.shared, row);
-    let parameter = is_seen(rows.parameter, row);
-    let returned = is_seen(rows.returned, row);
-    is_any(shared, parameter, returned)
-}
-
-// Whether some row has the definition and a mark.
-fn is_marked(listing: &Listing, scores: &Scores, wanted: u32) -> bool
-    requires { IsOrdered listing.now }
-    ensures { result ≡ spec.marked_to listing.now scores.now.marks wanted (length listing.now) }
-{
-    let rows = rows_of(listing, wanted);
-    let shared = has_mark(scores, rows.shared);
-    let parameter = has_mark(scores, rows.parameter);
-    let returned = has_mark(scores, rows.returned);
-    is_any(shared, parameter, returned)
-}
-
-// Whether each row that has the definition has a reason.
-fn is_reasoned(listing: &Listing, reasons: Option<&RowReasons>, wanted: u32) -> bool
-    requires { IsOrdered listing.now }
-    ensures { result ≡ spec.reasoned_to listing.now (option_copied reasons.entry) wanted (length listing.now) }
-{
-    let rows = rows_of(listing, wanted);
-    let shared = lacks_reason(reasons, rows.shared);
-    let parameter = lacks_reason(reasons, rows.parameter);
-    let returned = lacks_reason(reasons, rows.returned);
-    !is_any(shared, parameter, returned)
+    let mut i = count;
+    while i > 0 {
+        i -= 1;
+        if defines(listing, i, wanted) && !has_reason(reasons, i) {
+            return false;
+        }
+    }
+    true
 }
 
 // The definition of a row, if no earlier row has it.
 fn new_definition(listing: &Listing, row: u32) -> Option<u32>
-    requires number { row < length listing.now }
-    requires ordered { IsOrdered listing.now }
+    requires { row < length listing.now }
     ensures { result ≡ spec.new_definition listing.now row }
 {
     match definition(listing.row(row)) {
@@ -184,14 +162,14 @@ fn new_definition(listing: &Listing, row: u32) -> Option<u32>
 // The verdict on the definitions.
 #[tactic(auto, using(crate::proofs::More::defs_more))]
 fn defs_verdict(listing: &Listing, scores: &Scores, reasons: Option<&RowReasons>) -> Verdict
-    requires { IsOrdered listing.now }
     ensures { result ≡ spec.defs_to listing.now scores.now.marks (option_copied reasons.entry) (length listing.now) }
 {
+    let rows = listing.len();
     let mut verdict = NONE;
-    for i in 0..listing.len() {
+    for i in 0..rows {
         if let Some(definition) = new_definition(listing, i) {
-            let marked = is_marked(listing, scores, definition);
-            let reasoned = is_reasoned(listing, reasons, definition);
+            let marked = is_marked(listing, scores, rows, definition);
+            let reasoned = is_reasoned(listing, reasons, rows, definition);
             verdict = one_more(verdict, marked, reasoned);
         }
     }
