@@ -33,22 +33,22 @@ files_none project first second parts others (Err e) is is' h = tt
 answers_two : (bytes : List ℕ) (p : Project) (one two first second : List ℕ) (a : Answer) → IsProject bytes p → one ≡ p.first.file → two ≡ p.second.file
     → AnswersFiles p first second a → Answers bytes (one ∷ two ∷ []) (first ∷ second ∷ []) a
 answers_two bytes p one two first second a is named named' h = (
-    record {
-      project = p;
-      is_project = is;
-      are_names = ap (λ n. n ∷ two ∷ []) named ∙ ap (λ n. p.first.file ∷ n ∷ []) named';
-      first = first;
-      second = second;
-      are_contents = refl;
-      parts = h.0;
-      others = h.1;
-      first_unit = h.2;
-      second_unit = h.3;
-      entry = h.4.0;
-      linked = h.4.1;
-    },
-    h.4.2,
-  )
+  record {
+    project = p;
+    is_project = is;
+    are_names = ap (λ n. n ∷ two ∷ []) named ∙ ap (λ n. p.first.file ∷ n ∷ []) named';
+    first = first;
+    second = second;
+    are_contents = refl;
+    parts = h.0;
+    others = h.1;
+    first_unit = h.2;
+    second_unit = h.3;
+    entry = h.4.0;
+    linked = h.4.1;
+  },
+  h.4.2,
+)
 
 -- what is answered for the files is answered for the project that names them
 pub two_some : (bytes : List ℕ) (p : Project) (one two first second : List ℕ) (r : Outcome) → IsProject bytes p → one ≡ p.first.file → two ≡ p.second.file

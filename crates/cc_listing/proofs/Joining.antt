@@ -22,7 +22,7 @@ handings : (P : Program) (G : Graph) (F : Facts) (c : Callings) (C : AreCallings
     → spec.AreHandings P G F C.0.sites.items (pairs_of C.0) calls
 handings P G F c C h calls are of =
     let moved : by.AreHandings P G F C.0.sites.items (pairs_of C.0) h =
-      subst (λ s. by.AreHandings P G F s (pairs_of C.0) h) C.2.sites (subst (λ p. by.AreHandings P G F c.sites.items p h) C.2.pairs are) in
+    subst (λ s. by.AreHandings P G F s (pairs_of C.0) h) C.2.sites (subst (λ p. by.AreHandings P G F c.sites.items p h) C.2.pairs are) in
     record {
       calls = of.calls ∙ moved.calls;
       formals = of.formals ∙ moved.formals;
@@ -54,8 +54,8 @@ rows_are P G F c a h T rows C uses hands table is = record {
   calls = is.calls;
   are_handings = handings P G F c C h is.calls hands is.are;
   listed =
-    subst (λ t. AreListed (steps c.next.items G.next 0) t (spec.accesses_in P G F c.reach.items (pairs_of C.0)) is.calls rows) table
-    (uses_moved P G F c C a (λ u. AreListed (steps c.next.items G.next 0) T u is.calls rows) uses is.listed);
+      subst (λ t. AreListed (steps c.next.items G.next 0) t (spec.accesses_in P G F c.reach.items (pairs_of C.0)) is.calls rows) table
+      (uses_moved P G F c C a (λ u. AreListed (steps c.next.items G.next 0) T u is.calls rows) uses is.listed);
   ascending = is.ascending;
 }
 
@@ -69,6 +69,6 @@ rows_are_more P G F c a h T most C uses hands table is = record {
   calls = is.calls;
   are_handings = handings P G F c C h is.calls hands is.are;
   more =
-    subst (λ t. HasMoreListed (steps c.next.items G.next 0) t (spec.accesses_in P G F c.reach.items (pairs_of C.0)) is.calls most) table
-    (uses_moved P G F c C a (λ u. HasMoreListed (steps c.next.items G.next 0) T u is.calls most) uses is.more);
+      subst (λ t. HasMoreListed (steps c.next.items G.next 0) t (spec.accesses_in P G F c.reach.items (pairs_of C.0)) is.calls most) table
+      (uses_moved P G F c C a (λ u. HasMoreListed (steps c.next.items G.next 0) T u is.calls most) uses is.more);
 }

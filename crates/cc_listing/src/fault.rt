@@ -54,8 +54,7 @@ impl<T: Drop> From<AllocFailed<T>> for ListFault {
 }
 
 /// Why there are no rows, as a fault of the listing.
-pub(crate) fn of_stop(stop: Stop) -> ListFault
-{
+pub(crate) fn of_stop(stop: Stop) -> ListFault {
     match stop {
         Stop::Memory => ListFault::Memory,
         Stop::TooMany => ListFault::TooManyRows,

@@ -54,11 +54,7 @@ pub struct Handings {
 }
 
 // Those of the formals whose function has its entry among so many points.
-fn formals_within(
-    alloc: Global,
-    formals: &[Formal],
-    points: u32,
-) -> Result<Vec<Formal>, AllocError>
+fn formals_within(alloc: Global, formals: &[Formal], points: u32) -> Result<Vec<Formal>, AllocError>
     ensures { IfOk result (λ out. out.items ≡ formals_in points formals.now) }
 {
     formals

@@ -100,8 +100,22 @@ pub fn rows_of(
     let callings = callings_of(alloc, program, graph, facts)?;
     let order = all_points(alloc, graph.len())?;
     let pairs = callings.pairs.as_slice();
-    let accesses = accesses_of(alloc, program, graph, facts, callings.reach.as_slice(), pairs)?;
-    let handings = handings_of(alloc, program, graph, facts, callings.sites.as_slice(), pairs)?;
+    let accesses = accesses_of(
+        alloc,
+        program,
+        graph,
+        facts,
+        callings.reach.as_slice(),
+        pairs,
+    )?;
+    let handings = handings_of(
+        alloc,
+        program,
+        graph,
+        facts,
+        callings.sites.as_slice(),
+        pairs,
+    )?;
     let tables = tables_of(alloc, program, facts)?;
     match rows_by(
         alloc,

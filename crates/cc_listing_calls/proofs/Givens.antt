@@ -78,8 +78,7 @@ module _ (next within : Next) (root : ℕ) (T : Tables) (reach : List Block) (A 
       let r = p.returned in
       let has = subst (λ (rs : List Returned). Contains rs r) (sym e_returns) (filter_new (is_given root reach) returns r p.gives ((is_reach r.after).1 p.reachable)) in
       let at = place P.returns.now r has in
-      let same : return_row c d ≡ row.Return d s g = (let e = p.is_call.is_site in let e' = p.is_call.is_callee in cc) in
-      (
+      let same : return_row c d ≡ row.Return d s g = (let e = p.is_call.is_site in let e' = p.is_call.is_callee in cc) in (
         c,
         subst (λ (cs : List Call). Contains cs c) (sym e_asking) (filter_new (is_asking T root reach) calls c p.may_call (true_and c.used (is_live T root reach c) p.used (from_call next within root T reach is_reach c s g p.is_call))),
         (

@@ -37,8 +37,7 @@ touches_are points pairs pairs' out items e e_out t = (
   λ is. (let m = map_only touch_of pairs t (subst (λ (ts : List Touch). Contains ts t) (e_out ∙ ap (map touch_of) e) is) in
       let at = (items m.0).0 m.1 in
       let slot : m.0.1 ≡ t.slot = ap (λ (x : Touch). x.slot) m.2 in
-      let point : m.0.0 ≡ t.point = ap (λ (x : Touch). x.point) m.2 in
-      (
+      let point : m.0.0 ≡ t.point = ap (λ (x : Touch). x.point) m.2 in (
         ap (slice_get points) (sym slot) ∙ at ∙ ap (λ (i : ℕ). Some (Some i)) point,
         sym (ap (λ (x : Touch). x.node) m.2) ∙ slot,
         sym (ap (λ (x : Touch). x.object) m.2),

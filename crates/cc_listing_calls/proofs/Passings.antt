@@ -109,8 +109,7 @@ module _ (next within : Next) (root : ℕ) (T : Tables) (reach : List Block) (A 
       let at = place P.arguments.now a kept in
       let j = p.takes.0 in
       let at_formal = place C.formals.now f p.takes in
-      let same : parameter c a d u ≡ row.Parameter d s k g u = (let e = p.is_call.is_site in let e' = p.is_call.is_callee in let e'' = p.is_argument.1 in cc) in
-      (
+      let same : parameter c a d u ≡ row.Parameter d s k g u = (let e = p.is_call.is_site in let e' = p.is_call.is_callee in let e'' = p.is_argument.1 in cc) in (
         c,
         live_new next within root T reach is_reach C.calls.now live e_live c s g p.may_call p.is_call,
         (

@@ -56,12 +56,7 @@ fn return_row(call: Call, definition: u32) -> Row
 }
 
 // Adds a row for each of the definitions.
-fn add_given(
-    rows: &mut Vec<Row>,
-    most: usize,
-    call: Call,
-    definitions: &[u32],
-) -> Result<(), Stop>
+fn add_given(rows: &mut Vec<Row>, most: usize, call: Call, definitions: &[u32]) -> Result<(), Stop>
     ensures rows { OnOk result (Gains rows.old.items rows.new.items
         (Each definitions.now (spec.IsReturnOf call))) }
     ensures many { result ≡ Err TooMany → HasMore row_cmp (Or rows.old.items

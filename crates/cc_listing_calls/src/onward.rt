@@ -112,15 +112,7 @@ fn flow_all(
     ensures { OnOk result (Gains found.old.items found.new.items
         (Reaches ways.entry.next.now ways.entry.wipes.now reads.now definitions.now)) }
 {
-    match flows(
-        alloc,
-        found,
-        usize::MAX,
-        ways,
-        reads,
-        slots,
-        definitions,
-    ) {
+    match flows(alloc, found, usize::MAX, ways, reads, slots, definitions) {
         Ok(()) => Ok(()),
         Err(_) => Err(Memory),
     }

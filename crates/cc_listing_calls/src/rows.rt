@@ -40,11 +40,7 @@ pub fn items_at(rows: &[List<u32>], at: u32) -> &[u32]
 }
 
 /// These definitions, or where a read is named those that reach it.
-pub fn definitions_of<'a>(
-    own: &'a [u32],
-    sources: &'a [List<u32>],
-    named: Option<u32>,
-) -> &'a [u32]
+pub fn definitions_of<'a>(own: &'a [u32], sources: &'a [List<u32>], named: Option<u32>) -> &'a [u32]
     ensures { result.now ≡ spec.definitions_of own.now sources.now named }
 {
     match named {
@@ -216,12 +212,7 @@ fn add_arguments(
 }
 
 // Adds the rows of a call.
-fn add_passes(
-    rows: &mut Vec<Row>,
-    most: usize,
-    passing: Passing,
-    call: Call,
-) -> Result<(), Stop>
+fn add_passes(rows: &mut Vec<Row>, most: usize, passing: Passing, call: Call) -> Result<(), Stop>
     ensures rows { OnOk result (Gains rows.old.items rows.new.items
         (spec.OfCall passing.entry call)) }
     ensures many { result ≡ Err TooMany → HasMore row_cmp (Or rows.old.items

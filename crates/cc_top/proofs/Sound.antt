@@ -38,8 +38,7 @@ table_of_first : (words : List (List ℕ)) (files : Files) (name bytes : List �
     → (f : IsFirst bytes (file_names_of checked.files) contents) → OfFirst bytes (file_names_of checked.files) contents f reply → Table words files reply
 table_of_first words files name bytes checked contents reply well named is_held all_held f (inr p) = not_refused reply _ 3 (omega arith) well p.1
 table_of_first words files name bytes checked contents reply well named is_held all_held f (inl p) =
-    let both = first_of files (file_names_of checked.files) contents f.project.first.file f.project.second.file f.first f.second f.are_names f.are_contents all_held in
-    (
+    let both = first_of files (file_names_of checked.files) contents f.project.first.file f.project.second.file f.first f.second f.are_names f.are_contents all_held in (
       p.1,
       ap (λ (r : Reply). r.out) p.3,
       record {

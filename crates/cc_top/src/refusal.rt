@@ -129,7 +129,9 @@ impl Refusal {
             }
             Refusal::Test { test, call, rule } => test_line(alloc, test, *call, *rule),
             Refusal::TooManyNodes => String::from_str(alloc, "too many nodes\n"),
-            Refusal::TooManyPoints(count) => format!(in alloc; "too many control points: {count}\n"),
+            Refusal::TooManyPoints(count) => format!(in alloc;
+                "too many control points: {count}\n"
+            ),
             Refusal::TooManyFacts => String::from_str(alloc, "too many facts\n"),
             Refusal::TooManyRows => String::from_str(alloc, "too many rows\n"),
             Refusal::Internal => String::from_str(alloc, "internal: a number without a name\n"),

@@ -74,9 +74,9 @@ moved bytes names contents f g reply of =
     let parts : f.parts ≡ g.parts = one_unit g.first f.parts g.parts (subst (λ b. IsUnit b f.parts) both.0 f.first_unit) g.first_unit in
     let others : f.others ≡ g.others = one_unit g.second f.others g.others (subst (λ b. IsUnit b f.others) both.1 f.second_unit) g.second_unit in
     let linked : IsLinked (program_of g.parts g.others) g.project.entry f.entry =
-      subst (λ p. IsLinked (program_of g.parts g.others) p.entry f.entry) project
-      (subst (λ o. IsLinked (program_of g.parts o) f.project.entry f.entry) others
-      (subst (λ p. IsLinked (program_of p f.others) f.project.entry f.entry) parts f.linked)) in
+    subst (λ p. IsLinked (program_of g.parts g.others) p.entry f.entry) project
+    (subst (λ o. IsLinked (program_of g.parts o) f.project.entry f.entry) others
+    (subst (λ p. IsLinked (program_of p f.others) f.project.entry f.entry) parts f.linked)) in
     let entry : f.entry ≡ g.entry = one_entry (program_of g.parts g.others) g.project.entry f.entry g.entry g.linked.0 linked.1 g.linked.1 in
     subst (λ e. OfUnits g.project g.parts g.others e reply) entry
     (subst (λ p. OfUnits p g.parts g.others f.entry reply) project

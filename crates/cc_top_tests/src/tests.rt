@@ -121,7 +121,10 @@ fn other_files(rt: HostRuntime) -> Result<(), Fail> {
         ),
     ];
     for (a, b, out, err, status) in cases {
-        assert!(rt; lists(rt.alloc(), PROJECT, a, b, out, err, status)?, "{a}{b}");
+        assert!(rt;
+            lists(rt.alloc(), PROJECT, a, b, out, err, status)?,
+            "{a}{b}"
+        );
     }
     Ok(())
 }
