@@ -1,4 +1,0 @@
-pub mod AskedFacts
-pub mod SlotLaws
-pub mod EventSteps
-pub mod Moves

@@ -1,4 +1,0 @@
-pub mod Asked
-pub mod Recording
-pub mod Roles
-pub mod Steps

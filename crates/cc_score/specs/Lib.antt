@@ -1,3 +1,0 @@
-pub mod Conflicts
-pub mod Counts
-pub mod Marks
