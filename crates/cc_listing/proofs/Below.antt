@@ -1,7 +1,7 @@
 -- Points that come next are points.
 use Rattle.std.proofs.Common.{◌≡◌, ◌<◌, ℕ, zero, suc, true, List, [], ◌∷◌, length, Some, arith, subst, sym}
 use Rattle.std.specs.Prelude.{Contains, nat_lt, slice_get}
-use Rattle.std.proofs.lemmas.Bool.{and_parts}
+use Rattle.std.proofs.lemmas.Bool.{and_parts, ltb-true}
 use Rattle.std.proofs.lemmas.Option.{same_Some}
 use Rattle.cc_flows.specs.Sweeping.{HasEdge, StaysWithin}
 use Rattle.cc_listing.specs.Stepping.{all_below, are_below}
@@ -10,7 +10,8 @@ below_in : (count : ℕ) (row : List ℕ) (q : ℕ) → are_below count row ≡ 
 below_in count [] q is (k, lt, e) = absurd (omega (arith, lt))
 below_in count (x ∷ row) q is (zero, lt, e) =
     let both = and_parts (nat_lt x count) (are_below count row) is in
-    omega (arith, both.0, e)
+    let below : x < count = ltb-true x count both.0 in
+    omega (arith, below, e)
 below_in count (x ∷ row) q is (suc k, lt, e) =
     let both = and_parts (nat_lt x count) (are_below count row) is in
     below_in count row q both.1 (k, omega (arith, lt), e)

@@ -1,6 +1,19 @@
 -- From what was gathered to the program, its graph and its facts.
-use Rattle.std.proofs.Common.{◌≡◌, ◌<◌, ℕ, List, sym, ap, subst, ◌∙◌}
+use Rattle.std.proofs.Common.{◌≡◌, ◌<◌, ℕ, List, Vec, Global, Option, Some, None, Result, Ok, Err, IfOk, IfSome, refl, sym, ap, subst, ◌∙◌}
+use Rattle.std.specs.List.Sorted.{IsStrictlySortedBy}
+use Rattle.cc_rows.specs.Order.{row_cmp}
+use Rattle.cc_rows.specs.declared.stop.Stop.{Stop}
+use Rattle.cc_rows.specs.declared.stop.Stop.TheVariants as stop
+use Rattle.cc_across.specs.Calling.{AreCalls}
+use Rattle.cc_across.specs.declared.calls.Calls.{Calls as Across}
+use Rattle.cc_base.specs.declared.memory.Memory.{Memory}
+use Rattle.std.specs.Prelude.{Contains}
+use Rattle.std.proofs.lemmas.Bool.{ltb-true}
 use Rattle.cc_facts.specs.declared.facts.Facts.{Facts}
+use Rattle.cc_handing.specs.Sites.{formals}
+use Rattle.cc_handing.specs.declared.site.Site.{Site}
+use Rattle.cc_lanes.proofs.Listing.{filter_only}
+use Rattle.cc_listed.specs.declared.calls.Formal.{Formal}
 use Rattle.cc_graph.specs.declared.graph.Graph.{Graph}
 use Rattle.cc_listed.specs.declared.calls.Calls.{Calls}
 use Rattle.cc_listed.specs.declared.table.Access.{Access}
@@ -9,11 +22,16 @@ use Rattle.cc_listed.specs.Stretches.{Accesses as Uses, accesses, steps}
 use Rattle.cc_listing_rows.specs.ListedRows.{AreListed, HasMoreListed}
 use Rattle.cc_program.specs.declared.program.Program.{Program}
 use Rattle.cc_rows.specs.declared.row.Row.{Row}
+use Rattle.cc_uses.specs.Giving.{given_of}
+use Rattle.cc_uses.specs.Reading.{reads_of}
 use Rattle.cc_uses.specs.Tabling.{tables_of}
+use Rattle.cc_handing.specs.Passing.{passed}
 use Rattle.cc_listing.specs.declared.callings.Callings.{Callings}
 use Rattle.cc_listing.specs.declared.gathered.Accesses.{Accesses}
 use Rattle.cc_listing.specs.declared.gathered.Handings.{Handings}
-use Rattle.cc_listing.specs.Callings.{AreCallings}
+use Rattle.cc_listing.specs.Callings.{AreCallings, AreCallingsBy}
+use Rattle.cc_listing.specs.Faults.{of_stop}
+use Rattle.cc_listing.specs.declared.fault.ListFault.TheVariants as fault
 use Rattle.cc_listing.specs.Gathered as by
 use Rattle.cc_listing.specs.Listing as spec
 use Rattle.cc_listing.specs.Sites.{pairs_of}
@@ -36,9 +54,12 @@ uses_moved : (P : Program) (G : Graph) (F : Facts) (c : Callings) (C : AreCallin
     → S (accesses a.writes.items a.given.items a.passed.items a.reads.items) → S (spec.accesses_in P G F c.reach.items (pairs_of C.0))
 uses_moved P G F c C a S are s =
     let moved : by.AreAccesses P G F c.reach.items (pairs_of C.0) a = subst (λ p. by.AreAccesses P G F c.reach.items p a) C.2.pairs are in
-    subst (λ (w : List Access). S (accesses w _ _ _)) moved.writes
-    (subst (λ (g : List Access). S (accesses a.writes.items g _ _)) moved.given
-    (subst (λ (p : List Access). S (accesses a.writes.items a.given.items p _)) moved.passed
+    let given = given_of P G F.parts in
+    let handed = passed P G F.parts c.reach.items 0 (pairs_of C.0) in
+    let reads = reads_of P G F in
+    subst (λ (w : List Access). S (accesses w given handed reads)) moved.writes
+    (subst (λ (g : List Access). S (accesses a.writes.items g handed reads)) moved.given
+    (subst (λ (p : List Access). S (accesses a.writes.items a.given.items p reads)) moved.passed
     (subst (λ (r : List Access). S (accesses a.writes.items a.given.items a.passed.items r)) moved.reads s)))
 
 steps_are : (P : Program) (G : Graph) (F : Facts) (c : Callings) (C : AreCallings P G F c) → spec.AreSteps P G F C.0 c.next.items c.reach.items
@@ -72,3 +93,48 @@ rows_are_more P G F c a h T most C uses hands table is = record {
       subst (λ t. HasMoreListed (steps c.next.items G.next 0) t (spec.accesses_in P G F c.reach.items (pairs_of C.0)) is.calls most) table
       (uses_moved P G F c C a (λ u. HasMoreListed (steps c.next.items G.next 0) T u is.calls most) uses is.more);
 }
+
+enter_below : (points : ℕ) (all fs : List Formal) → fs ≡ spec.formals_in points all → by.EnterBelow points fs
+enter_below points all fs is = λ f has.
+    let kept = filter_only (spec.enters_below points) all f (subst (λ l. Contains l f) is has) in
+    ltb-true f.entry points kept.1
+
+-- the entries of the formals' functions are below the number of points
+pub formals_below : (P : Program) (G : Graph) (F : Facts) (sites : List ℕ) (pairs : List Site) (h : Handings) (n : ℕ) → by.AreHandings P G F sites pairs h → n ≡ G.points
+    → by.EnterBelow n h.formals.items
+formals_below P G F sites pairs h n are is = subst (λ m. by.EnterBelow m h.formals.items) (sym is) (enter_below G.points (formals P G F.parts) h.formals.items are.formals)
+
+-- ---- From what is said of the rows by slices to what is said by the lists
+
+pub rows_by : (G : Graph) (c : Callings) (a : Accesses) (h : Handings) (T : Tables) (C : Calls) (r : Result (Vec Row Global) Stop)
+    → C.calls.now ≡ h.calls.items → C.formals.now ≡ h.formals.items → C.arguments.now ≡ h.handed.arguments → C.returns.now ≡ h.handed.returns → C.named.now ≡ h.handed.named
+    → IfOk r (λ rows. AreListed (steps c.next.items G.next 0) T (accesses a.writes.items a.given.items a.passed.items a.reads.items) C rows.items)
+    → IfOk r (λ rows. IsStrictlySortedBy row_cmp rows.items) → IfOk r (λ rows. by.AreRowsBy G c a h T rows.items)
+rows_by G c a h T C (Ok rows) calls formals arguments returns named listed ascending = record {
+  calls = C;
+  are = record { calls = calls; formals = formals; arguments = arguments; returns = returns; named = named };
+  listed = listed;
+  ascending = ascending;
+}
+rows_by G c a h T C (Err e) calls formals arguments returns named listed ascending = tt
+
+pub more_by : (G : Graph) (c : Callings) (a : Accesses) (h : Handings) (T : Tables) (C : Calls) (most : ℕ)
+    → C.calls.now ≡ h.calls.items → C.formals.now ≡ h.formals.items → C.arguments.now ≡ h.handed.arguments → C.returns.now ≡ h.handed.returns → C.named.now ≡ h.handed.named
+    → HasMoreListed (steps c.next.items G.next 0) T (accesses a.writes.items a.given.items a.passed.items a.reads.items) C most → by.AreMoreRowsBy G c a h T most
+more_by G c a h T C most calls formals arguments returns named more = record {
+  calls = C;
+  are = record { calls = calls; formals = formals; arguments = arguments; returns = returns; named = named };
+  more = more;
+}
+
+-- what is made of the calls that the facts give
+pub callings_made : (P : Program) (G : Graph) (F : Facts) (C : Across) (r : Result (Option Callings) Memory) → AreCalls P G F C → IfOk r (λ made. IfSome made (AreCallingsBy P G C))
+    → IfOk r (λ made. IfSome made (AreCallings P G F))
+callings_made P G F C (Ok None) are h = tt
+callings_made P G F C (Ok (Some c)) are h = (C, are, h)
+callings_made P G F C (Err e) are h = tt
+
+-- too many rows are the one fault of the rows that says so
+pub many_of : (s : Stop) → of_stop s ≡ fault.TooManyRows → s ≡ stop.TooMany
+many_of stop.Memory e = absurd (let f = e in cc)
+many_of stop.TooMany e = refl

@@ -5,3 +5,4 @@ pub mod Callings
 pub mod Gathered
 pub mod Listing
 pub mod Answers
+pub mod Faults

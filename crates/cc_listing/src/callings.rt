@@ -1,9 +1,8 @@
 // Who may call whom, and the steps that this gives.
-ghost use Rattle.std.specs.Prelude.{◌≡◌, [], IfOk, OnOk};
+ghost use Rattle.std.specs.Prelude.{◌≡◌, IfOk, IfSome, OnOk};
 ghost use Rattle.cc_listing.specs.Callings as spec;
 ghost use Rattle.cc_listing.specs.Sites as sites;
 
-use crate::fault::ListFault;
 use cc_across::{Calls, calls_of, next_across};
 use cc_base::{List, Memory};
 use cc_blocks::Block;
@@ -53,18 +52,18 @@ fn pairs_of(alloc: Global, calls: &Calls) -> Result<Vec<Site>, Memory>
     Ok(pairs)
 }
 
-// Who may call whom by these calls, and the steps that they give.
+// Who may call whom by these calls, and the steps that they give; nothing where there is no point.
 fn callings_by(
     alloc: Global,
     program: &Program,
     graph: &Graph,
     calls: &Calls,
-) -> Result<Callings, ListFault>
-    ensures { IfOk result (spec.AreCallingsBy program.now graph.now calls.now) }
+) -> Result<Option<Callings>, Memory>
+    ensures { IfOk result (λ made. IfSome made (spec.AreCallingsBy program.now graph.now calls.now)) }
 {
     let next = next_across(alloc, program, graph, calls)?;
     if next.len() == 0 {
-        return Err(ListFault::Internal);
+        return Ok(None);
     }
     let order = order_of(alloc, next.as_slice(), 0)?;
     let routes = Routes {
@@ -75,23 +74,23 @@ fn callings_by(
     let reach = reach_of(alloc, routes)?;
     let pairs = pairs_of(alloc, calls)?;
     let sites = Vec::from_slice(alloc, calls.sites())?;
-    Ok(Callings {
+    Ok(Some(Callings {
         next,
         order,
         reach,
         sites,
         pairs,
-    })
+    }))
 }
 
-/// Who may call whom, and the steps that this gives.
+/// Who may call whom, and the steps that this gives; nothing where there is no point.
 pub fn callings_of(
     alloc: Global,
     program: &Program,
     graph: &Graph,
     facts: &Facts,
-) -> Result<Callings, ListFault>
-    ensures { IfOk result (spec.AreCallings program.now graph.now facts.now) }
+) -> Result<Option<Callings>, Memory>
+    ensures { IfOk result (λ made. IfSome made (spec.AreCallings program.now graph.now facts.now)) }
 {
     let calls = calls_of(alloc, program, graph, facts)?;
     callings_by(alloc, program, graph, &calls)

@@ -1,4 +1,7 @@
 // Why a program has no listing.
+ghost use Rattle.std.specs.Prelude.{◌≡◌};
+ghost use Rattle.cc_listing.specs.Faults as spec;
+
 use cc_base::Memory;
 use cc_graph::GraphFault;
 use cc_points::PointsFault;
@@ -54,7 +57,9 @@ impl<T: Drop> From<AllocFailed<T>> for ListFault {
 }
 
 /// Why there are no rows, as a fault of the listing.
-pub(crate) fn of_stop(stop: Stop) -> ListFault {
+pub(crate) fn of_stop(stop: Stop) -> ListFault
+    ensures { result ≡ spec.of_stop stop }
+{
     match stop {
         Stop::Memory => ListFault::Memory,
         Stop::TooMany => ListFault::TooManyRows,

@@ -1,7 +1,6 @@
 // The listing, and its table.
-ghost use Rattle.std.specs.Prelude.{◌≡◌, ◌≤◌, IfOk, IfErr, Err, length};
+ghost use Rattle.std.specs.Prelude.{◌≤◌, IfOk, length};
 ghost use Rattle.cc_listing.specs.Answers as spec;
-ghost use Rattle.cc_listing.specs.declared.fault.ListFault.TheVariants.{TooManyRows};
 
 use crate::couplings::couplings_of;
 use crate::fault::{ListFault, of_graph, of_points};
@@ -16,8 +15,7 @@ use std::alloc::Global;
 
 // The points-to facts of a program.
 fn facts_of(alloc: Global, program: &Program) -> Result<Facts, ListFault>
-    ensures facts { IfOk result (spec.AreFacts program.now) }
-    ensures fault { IfErr result (λ fault. fault ≡ TooManyRows → ⊥) }
+    ensures { IfOk result (spec.AreFacts program.now) }
 {
     match solve(alloc, program) {
         Ok(facts) => Ok(facts),
@@ -32,7 +30,7 @@ fn couplings_by(
     graph: &Graph,
     facts: &Facts,
 ) -> Result<CouplingList, ListFault>
-    ensures { IfOk result (λ couplings. spec.AreListed program.now graph.now facts.now couplings) }
+    ensures listed { IfOk result (λ couplings. spec.AreListed program.now graph.now facts.now couplings) }
     ensures few { IfOk result (λ couplings. length couplings ≤ 200000) }
 {
     let rows = rows_of(alloc, program, graph, facts)?;

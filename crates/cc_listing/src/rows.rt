@@ -97,7 +97,9 @@ pub fn rows_of(
     if !stays(graph.next.as_slice()) || graph.next.len() != u64::from(graph.len()) {
         return Err(ListFault::Internal);
     }
-    let callings = callings_of(alloc, program, graph, facts)?;
+    let Some(callings) = callings_of(alloc, program, graph, facts)? else {
+        return Err(ListFault::Internal);
+    };
     let order = all_points(alloc, graph.len())?;
     let pairs = callings.pairs.as_slice();
     let accesses = accesses_of(

@@ -28,7 +28,6 @@ fn all_below(rows: &[List<u32>], count: u64) -> bool
 }
 
 /// Whether each point that comes next is one of those that have a row.
-#[tactic(auto, using(crate::proofs::Below::all_stay))]
 pub fn stays(rows: &[List<u32>]) -> bool
     ensures { result ≡ true → StaysWithin rows.now }
 {
