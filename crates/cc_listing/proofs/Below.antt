@@ -1,9 +1,9 @@
 -- Points that come next are points.
-use Rattle.std.proofs.Common.{◌≡◌, ◌<◌, ℕ, zero, suc, true, List, [], ◌∷◌, length, Some, arith, subst, sym}
+use Rattle.std.proofs.Common.{◌≡◌, ◌<◌, ℕ, zero, suc, true, List, [], ◌∷◌, length, Some, arith, subst}
 use Rattle.std.specs.Prelude.{Contains, nat_lt, slice_get}
 use Rattle.std.proofs.lemmas.Bool.{and_parts, ltb-true}
 use Rattle.std.proofs.lemmas.Option.{same_Some}
-use Rattle.cc_flows.specs.Sweeping.{HasEdge, StaysWithin}
+use Rattle.cc_flows.specs.Sweeping.{StaysWithin}
 use Rattle.cc_listing.specs.Stepping.{all_below, are_below}
 
 below_in : (count : ℕ) (row : List ℕ) (q : ℕ) → are_below count row ≡ true → Contains row q → q < count

@@ -1,5 +1,5 @@
 -- Who may call whom, and the steps that this gives.
-use Rattle.std.specs.Prelude.{ℕ, ◌≡◌, ◌<◌, length}
+use Rattle.std.specs.Prelude.{◌≡◌, ◌<◌, length}
 use Rattle.cc_across.specs.declared.calls.Calls.{Calls}
 use Rattle.cc_across.specs.Calling.{AreCalls}
 use Rattle.cc_across.specs.Crossing.{AreNext}

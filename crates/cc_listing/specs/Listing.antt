@@ -1,5 +1,5 @@
 -- The rows of a program.
-use Rattle.std.specs.Prelude.{ℕ, ◌≡◌, ◌<◌, ◌≤◌, List, map, filter, Bool, nat_lt, length}
+use Rattle.std.specs.Prelude.{ℕ, ◌≡◌, List, filter, Bool, nat_lt}
 use Rattle.std.specs.List.Sorted.{IsStrictlySortedBy}
 use Rattle.cc_across.specs.declared.calls.Calls.{Calls as Callings}
 use Rattle.cc_across.specs.Calling.{AreCalls}

@@ -1,5 +1,5 @@
 -- Whether each point that comes next is a point.
-use Rattle.std.specs.Prelude.{ℕ, Bool, true, false, ◌&&◌, nat_lt, List, [], ◌∷◌}
+use Rattle.std.specs.Prelude.{ℕ, Bool, true, ◌&&◌, nat_lt, List, [], ◌∷◌}
 
 -- these numbers are below the count
 abbrev pub are_below : ℕ → List ℕ → Bool

@@ -1,6 +1,5 @@
 use Rattle.std.proofs.Common.{◌≡◌, ◌∙◌, sym, ap, subst, true, Err, rules}
 use Rattle.cc_flows.specs.Sweeping.{StaysWithin}
-use Rattle.cc_rows.specs.declared.stop.Stop.TheVariants as stop
 use Rattle.cc_listing.specs.Callings.{AreCallings}
 use Rattle.cc_listing.specs.declared.fault.ListFault.TheVariants.{TooManyRows}
 use Rattle.cc_listing.proofs.Joining.{formals_below, many_of, rows_are, rows_are_more}

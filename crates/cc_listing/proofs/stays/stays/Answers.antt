@@ -1,4 +1,4 @@
-use Rattle.std.proofs.Common.{◌≡◌, ◌∙◌, sym, true, length, rules}
+use Rattle.std.proofs.Common.{◌≡◌, true, length, rules}
 use Rattle.cc_listing.specs.Stepping as spec
 use Rattle.cc_listing.proofs.Below.{all_stay}
 use Rattle.cc_listing.proofs.stays.stays.Goals as goal
