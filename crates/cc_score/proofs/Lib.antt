@@ -1,0 +1,5 @@
+pub mod Found
+pub mod Least
+pub mod Mark
+pub mod More
+pub mod Search
