@@ -1,9 +1,8 @@
 -- From what was gathered to the program, its graph and its facts.
-use Rattle.std.proofs.Common.{◌≡◌, ℕ, List, Vec, Global, Option, Some, None, Result, Ok, Err, IfOk, IfSome, refl, sym, ap, subst, ◌∙◌}
+use Rattle.std.proofs.Common.{◌≡◌, ℕ, List, Vec, Global, Option, Some, None, Result, Ok, Err, IfOk, IfSome, sym, ap, subst, ◌∙◌}
 use Rattle.std.specs.List.Sorted.{IsStrictlySortedBy}
 use Rattle.cc_rows.specs.Order.{row_cmp}
 use Rattle.cc_rows.specs.declared.stop.Stop.{Stop}
-use Rattle.cc_rows.specs.declared.stop.Stop.TheVariants as stop
 use Rattle.cc_across.specs.Calling.{AreCalls}
 use Rattle.cc_across.specs.declared.calls.Calls.{Calls as Across}
 use Rattle.cc_base.specs.declared.memory.Memory.{Memory}
@@ -30,8 +29,6 @@ use Rattle.cc_listing.specs.declared.callings.Callings.{Callings}
 use Rattle.cc_listing.specs.declared.gathered.Accesses.{Accesses}
 use Rattle.cc_listing.specs.declared.gathered.Handings.{Handings}
 use Rattle.cc_listing.specs.Callings.{AreCallings, AreCallingsBy}
-use Rattle.cc_listing.specs.Faults.{of_stop}
-use Rattle.cc_listing.specs.declared.fault.ListFault.TheVariants as fault
 use Rattle.cc_listing.specs.Gathered as by
 use Rattle.cc_listing.specs.Listing as spec
 use Rattle.cc_listing.specs.Sites.{pairs_of}
@@ -133,8 +130,3 @@ pub callings_made : (P : Program) (G : Graph) (F : Facts) (C : Across) (r : Resu
 callings_made P G F C (Ok None) are h = tt
 callings_made P G F C (Ok (Some c)) are h = (C, are, h)
 callings_made P G F C (Err e) are h = tt
-
--- too many rows are the one fault of the rows that says so
-pub many_of : (s : Stop) → of_stop s ≡ fault.TooManyRows → s ≡ stop.TooMany
-many_of stop.Memory e = absurd (let f = e in cc)
-many_of stop.TooMany e = refl

@@ -1,5 +1,6 @@
 // Rows as couplings of the program.
-ghost use Rattle.std.specs.Prelude.{◌≡◌, IfOk};
+ghost use Rattle.std.specs.Prelude.{◌≡◌, IfErr, IfOk};
+ghost use Rattle.cc_listing.specs.Faults.{IsNoLimit};
 ghost use Rattle.cc_listing.specs.Couplings as spec;
 
 use crate::fault::ListFault;
@@ -103,7 +104,8 @@ pub fn couplings_of(
     program: &Program,
     rows: &[Row],
 ) -> Result<CouplingList, ListFault>
-    ensures { IfOk result (λ couplings. spec.AreCouplings program.now rows.now couplings) }
+    ensures are { IfOk result (λ couplings. spec.AreCouplings program.now rows.now couplings) }
+    ensures fault { IfErr result IsNoLimit }
 {
     let mut couplings = CouplingList::new(alloc);
     for row in rows {

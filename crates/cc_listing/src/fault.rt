@@ -66,14 +66,20 @@ pub(crate) fn of_stop(stop: Stop) -> ListFault
     }
 }
 
-pub(crate) fn of_graph(fault: GraphFault) -> ListFault {
+/// Why there are no control points, as a fault of the listing.
+pub(crate) fn of_graph(fault: GraphFault) -> ListFault
+    ensures { result ≡ spec.of_graph fault }
+{
     match fault {
         GraphFault::TooManyPoints { count } => ListFault::TooManyPoints { count },
         GraphFault::Memory => ListFault::Memory,
     }
 }
 
-pub(crate) fn of_points(fault: PointsFault) -> ListFault {
+/// Why there are no facts, as a fault of the listing.
+pub(crate) fn of_points(fault: PointsFault) -> ListFault
+    ensures { result ≡ spec.of_points fault }
+{
     match fault {
         PointsFault::TooManyFacts => ListFault::TooManyFacts,
         PointsFault::Memory => ListFault::Memory,

@@ -1,9 +1,9 @@
 // The rows of a program.
-ghost use Rattle.std.specs.Prelude.{◌≡◌, ◌<◌, ◌≤◌, IfOk, Err, length};
+ghost use Rattle.std.specs.Prelude.{◌≡◌, ◌<◌, ◌≤◌, IfErr, IfOk, Err, length};
 ghost use Rattle.cc_flows.specs.Sweeping.{StaysWithin};
 ghost use Rattle.cc_rows.specs.declared.stop.Stop.TheVariants.{TooMany};
-ghost use Rattle.cc_listing.specs.declared.fault.ListFault.TheVariants.{TooManyRows};
 ghost use Rattle.cc_listing.specs.Gathered as by;
+ghost use Rattle.cc_listing.specs.Answers as answers;
 ghost use Rattle.cc_listing.specs.Listing as spec;
 
 use crate::callings::{Callings, callings_of};
@@ -92,7 +92,7 @@ pub fn rows_of(
 ) -> Result<Vec<Row>, ListFault>
     ensures listed { IfOk result (λ rows. spec.AreRows program.now graph.now facts.now rows.items) }
     ensures few { IfOk result (λ rows. length rows.items ≤ 200000) }
-    ensures many { result ≡ Err TooManyRows → spec.AreMoreRows program.now graph.now facts.now 200000 }
+    ensures fault { IfErr result (answers.RefusedBy program.now graph.now facts.now) }
 {
     if !stays(graph.next.as_slice()) || graph.next.len() != u64::from(graph.len()) {
         return Err(ListFault::Internal);

@@ -25,7 +25,7 @@ use Rattle.cc_listed.specs.Stretches.{Steps, steps, Accesses, accesses}
 use Rattle.cc_listed.specs.Listed.{IsShared, StayInside}
 use Rattle.cc_listing_shared.specs.SharedRows as sharing
 use Rattle.cc_listing_calls.specs.ListedCalls.{IsListedCall}
-use Rattle.cc_listing_rows.specs.ListedRows.{IsListed, AreListed, HasMoreListed, shared_row}
+use Rattle.cc_listing_rows.specs.ListedRows.{IsJudged, IsListed, AreListed, HasMoreListed, shared_row}
 
 -- in the order in which they were found
 all_after : (x : Found) (ys : List Found) → AllByRecursion (λ y. found_cmp x y ≡ Less) ys → AllByRecursion (λ y. row_cmp (shared_row x) y ≡ Less) (map shared_row ys)
@@ -50,26 +50,42 @@ module _ (next within : Next) (root : ℕ) (T : Tables) (writes given passed rea
   from_call (row.Parameter d s k g u) w = w
   from_call (row.Return d s g) w = w
 
-  -- a listed row is a shared one, or another one
-  kinds : (x : Row) → IsListed G T A C x → IsListedCall G T A C x ⊎ ((f : Found) × IsShared G T A f.definition f.reader f.object × (shared_row f ≡ x))
-  kinds (row.Call s g) w = inl w
-  kinds (row.Shared d u o) w = inr (record { definition = d; reader = u; object = o }, w, refl)
-  kinds (row.Parameter d s k g u) w = inl w
-  kinds (row.Return d s g) w = inl w
+  judged : (x : Row) → StayInside T A → IsJudged T A x
+  judged (row.Call s g) stay = tt
+  judged (row.Shared d u o) stay = stay
+  judged (row.Parameter d s k g u) stay = tt
+  judged (row.Return d s g) stay = tt
+
+  -- what was found is a listed row
+  from_shared : (found : List Found) → sharing.AreListed next root T writes given passed reads found → (x : Row) → IsJudged T A x → (f : Found) → Contains found f → shared_row f ≡ x → IsListed G T A C x
+  from_shared found shared (row.Call s g) stay f has e = absurd (let no = e in cc)
+  from_shared found shared (row.Shared d u o) stay f has e = subst (IsListed G T A C) e ((shared within stay f).0 has)
+  from_shared found shared (row.Parameter d s k g u) stay f has e = absurd (let no = e in cc)
+  from_shared found shared (row.Return d s g) stay f has e = absurd (let no = e in cc)
+
+  -- a listed row is one that was found, or another one
+  kinds : (found : List Found) → sharing.AreListed next root T writes given passed reads found → (x : Row) → IsJudged T A x → IsListed G T A C x
+      → IsListedCall G T A C x ⊎ ((f : Found) × Contains found f × (shared_row f ≡ x))
+  kinds found shared (row.Call s g) stay w = inl w
+  kinds found shared (row.Shared d u o) stay w =
+      let f : Found = record { definition = d; reader = u; object = o } in
+      inr (f, (shared within stay f).1 w, refl)
+  kinds found shared (row.Parameter d s k g u) stay w = inl w
+  kinds found shared (row.Return d s g) stay w = inl w
 
   pub all_listed : (called : List Row) (found found' : List Found) (more more' rows : List Row) → ((x : Row) → Contains called x ↔ IsListedCall G T A C x) → sharing.AreListed next root T writes given passed reads found → found' ≡ found → more ≡ map shared_row found' → more' ≡ more → rows ≡ called ++ more' →
       AreListed G T A C rows
-  all_listed called found found' more more' rows calls shared e_found e_more e_more' e_rows stay x = (
+  all_listed called found found' more more' rows calls shared e_found e_more e_more' e_rows x stay = (
     λ is. ⊎_elim
         (λ l. from_call x ((calls x).0 l))
         (λ r. (let w = map_only shared_row found x (subst (λ (xs : List Row). Contains xs x) (e_more' ∙ e_more ∙ ap (map shared_row) e_found) r) in
-        subst (IsListed G T A C) w.2 ((shared within stay w.0).0 w.1)))
+        from_shared found shared x stay w.0 w.1 w.2))
         (Contains-append_cases called more' x (subst (λ (xs : List Row). Contains xs x) e_rows is)),
     λ w. subst (λ (xs : List Row). Contains xs x) (sym e_rows) (⊎_elim
         (λ l. Contains-append_left called more' x ((calls x).1 l))
         (λ r. Contains-append_right called more' x (subst (λ (xs : List Row). Contains xs x) (sym (e_more' ∙ e_more ∙ ap (map shared_row) e_found))
-        (subst (λ (y : Row). Contains (map shared_row found) y) r.2 (map_new shared_row found r.0 ((shared within stay r.0).1 r.1)))))
-        (kinds x w)),
+        (subst (λ (y : Row). Contains (map shared_row found) y) r.2 (map_new shared_row found r.0 r.1))))
+        (kinds found shared x stay w)),
   )
 
   pub more_called : (most : ℕ) → HasMore row_cmp (IsListedCall G T A C) most → HasMoreListed G T A C most
@@ -85,8 +101,8 @@ module _ (next within : Next) (root : ℕ) (T : Tables) (writes given passed rea
       )
 
   pub if_listed : (rows : List Row) (r : Result (Vec Row Global) Stop) → IfOk r (λ out. (x : Row) → Contains out.items x ↔ Contains rows x) → AreListed G T A C rows → IfOk r (λ out. AreListed G T A C out.items)
-  if_listed rows (Ok out) same listed = λ stay x. (λ is. (listed stay x).0 ((same x).0 is), λ w. (same x).1 ((listed stay x).1 w))
+  if_listed rows (Ok out) same listed = λ x stay. (λ is. (listed x stay).0 ((same x).0 is), λ w. (same x).1 ((listed x stay).1 w))
   if_listed rows (Err e) same listed = same
 
   pub more_listed : (rows : List Row) (most : ℕ) → AreListed G T A C rows → HasMore row_cmp (Contains rows) most → HasMoreListed G T A C most
-  more_listed rows most listed m stay = (m.0, m.1, m.2, λ x is. (listed stay x).0 (m.3 x is))
+  more_listed rows most listed m stay = (m.0, m.1, m.2, λ x is. (listed x (judged x stay)).0 (m.3 x is))

@@ -19,9 +19,14 @@ IsListed G T A C (row.Shared d u x) = IsShared G T A d u x
 IsListed G T A C (row.Parameter d s k g u) = IsParameter G T A C.calls.now C.arguments.now C.formals.now C.named.now d s k g u
 IsListed G T A C (row.Return d s g) = IsReturn G T A C.calls.now C.returns.now C.named.now d s g
 
+-- what is asked for a row to be judged: of a shared one that slots whose stretches stay in a function are of one component
+abbrev pub IsJudged : Tables → Accesses → Row → Type 0
+IsJudged T A (row.Shared d u x) = StayInside T A
+IsJudged T A other = Unit {0}
+
 -- these are the listed rows
 abbrev pub AreListed : Steps → Tables → Accesses → Calls → List Row → Type 0
-AreListed G T A C rows = StayInside T A → (r : Row) → Contains rows r ↔ IsListed G T A C r
+AreListed G T A C rows = (r : Row) → IsJudged T A r → Contains rows r ↔ IsListed G T A C r
 
 -- there are more listed rows than the number
 abbrev pub HasMoreListed : Steps → Tables → Accesses → Calls → ℕ → Type 0

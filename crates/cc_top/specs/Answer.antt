@@ -8,6 +8,8 @@ use Rattle.cc_first.specs.Listing.{IsListing}
 use Rattle.cc_first.specs.Unit.{program_of}
 use Rattle.cc_first_list.specs.First.{IsFirst}
 use Rattle.cc_first_list.specs.Points.{points, most_points}
+use Rattle.cc_listing.specs.Answers.{IsTable}
+use Rattle.cc_program.specs.declared.program.Program.{Program}
 use Rattle.cc_project.specs.Project.{Project}
 use Rattle.cc_project.specs.Outcome.{IsFault, IsProject}
 use Rattle.cc_project.specs.WellMade.{file_names_of}
@@ -59,9 +61,10 @@ OfFirst bytes names contents f reply =
     ((points f.parts f.others ≤ most_points) × (text : List ℕ) × IsListing f.project (program_of f.parts f.others) f.entry text × (reply ≡ done text))
     ⊎ ((most_points < points f.parts f.others) × (reply ≡ refused (points_line (points f.parts f.others)) 3))
 
--- The files are listed, or a line says why not. Which table or line it is, no definition says yet.
+-- The text is the table of a program, or a line says why there is none. That the program is that of the files, and which line
+-- it is, no definition says yet.
 abbrev pub OfWhole : Reply → Type 0
-OfWhole reply = ((text : List ℕ) × (reply ≡ done text)) ⊎ ((line : List ℕ) × (reply ≡ refused line 3))
+OfWhole reply = ((P : Program) × (text : List ℕ) × IsTable P text × (reply ≡ done text)) ⊎ ((line : List ℕ) × (reply ≡ refused line 3))
 
 -- the files are listed, where these are the bytes of the project file: as those of the first form, or as any others
 abbrev pub OfListed : List ℕ → Project → List (List ℕ) → Reply → Type 0

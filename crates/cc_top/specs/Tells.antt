@@ -1,9 +1,12 @@
 -- What a text or a refusal tells of the answer.
-use Rattle.std.specs.Prelude.{◌<◌, ℕ, List, Result, Ok, Err, Vec}
+use Rattle.std.specs.Prelude.{◌<◌, ℕ, List, Result, Ok, Err, Vec, IfOk}
 use Rattle.std.specs.declared.alloc.Global.{Global}
 use Rattle.cc_first_list.specs.declared.answer.Answer.{Answer}
 use Rattle.cc_first_list.specs.declared.answer.Answer.TheVariants as answer
 use Rattle.cc_io.specs.Shelf.{Files}
+use Rattle.cc_listing.specs.Answers.{IsTable}
+use Rattle.cc_listing.specs.declared.fault.ListFault.{ListFault}
+use Rattle.cc_program.specs.declared.program.Program.{Program}
 use Rattle.cc_top.specs.Answer.{Reply, done, refused}
 use Rattle.cc_top.specs.Ends.{End, write_fault, memory}
 use Rattle.cc_top.specs.Ends as ends
@@ -22,6 +25,10 @@ reply_of refusal = refused (line_of refusal) (status_of refusal)
 abbrev pub answered : Answer → Result (Vec ℕ Global) Refusal
 answered (answer.Table text) = Ok text
 answered (answer.TooManyPoints count) = Err (TooManyPoints count)
+
+-- a text that was made is the table of a program
+abbrev pub IsMade : Result (Vec ℕ Global) ListFault → Type 0
+IsMade made = IfOk made (λ text. (P : Program) × IsTable P text.items)
 
 -- P holds of the reply that a text stands for, or that a refusal of a status below 4 stands for
 abbrev pub Tells : (Reply → Type 0) → Result (Vec ℕ Global) Refusal → Type 0

@@ -1,7 +1,7 @@
 // The table that `list` answers with.
 //
 // Each step that reads the shelf says what the module `steps` says.
-ghost use Rattle.std.specs.Prelude.{◌≡◌, ◌≢◌, ◌≤◌, All, IfErr, IfSome, length};
+ghost use Rattle.std.specs.Prelude.{◌≡◌, ◌≢◌, ◌≤◌, All, IfErr, IfOk, IfSome, length};
 ghost use Rattle.cc_front.specs.Faults.{IsCaused, IsToldIn};
 ghost use Rattle.cc_top.specs.Answer.{OfListed, OfWhole};
 ghost use Rattle.cc_top.specs.Counts.{Caused, NoneFalls, counts_of};
@@ -36,6 +36,7 @@ fn table<S: Shelf>(
     ensures caused { IfErr result (IsCaused (counts_of (S.faults shelf.old) (S.misses shelf.old) (S.longs shelf.old))
         (counts_of (S.faults shelf.new) (S.misses shelf.new) (S.longs shelf.new))) }
     ensures told { IfSome (S.files shelf.old) (λ held. IfErr result (IsToldIn held files.now)) }
+    ensures table { IfOk result spec.IsMade }
 {
     match front(alloc, shelf, project, files) {
         Ok(built) => Ok(list_text(alloc, &built.program)),

@@ -1,8 +1,8 @@
-use Rattle.std.proofs.Common.{◌≡◌, ◌∙◌, sym, ap, subst, true, Err, rules}
+use Rattle.std.proofs.Common.{◌≡◌, ap, subst, true, Err, rules}
 use Rattle.cc_flows.specs.Sweeping.{StaysWithin}
 use Rattle.cc_listing.specs.Callings.{AreCallings}
-use Rattle.cc_listing.specs.declared.fault.ListFault.TheVariants.{TooManyRows}
-use Rattle.cc_listing.proofs.Joining.{formals_below, many_of, rows_are, rows_are_more}
+use Rattle.cc_listing.proofs.Joining.{formals_below, rows_are, rows_are_more}
+use Rattle.cc_listing.proofs.Refusing.{stopped}
 use Rattle.cc_listing.proofs.rows.rows_of.Goals as goal
 
 pub rows_by-requires-clause-within : goal.rows_by-requires-clause-within
@@ -23,12 +23,11 @@ returns-in-Ok-clause-listed c =
     rows_are c.args.program.now c.args.graph.now c.args.facts.now c.in-Some.callings c.in_ok-accesses.accesses c.in_ok-handings.handings c.in_ok-tables.tables c.in-Ok.rows.items
     callings uses hands c.in_ok-tables.ensures c.in-Ok.ensures.listed
 
-pub returns-clause-many : goal.returns-clause-many
-returns-clause-many c = λ is.
+pub returns-clause-fault : goal.returns-clause-fault
+returns-clause-fault c =
     let callings : AreCallings c.args.program.now c.args.graph.now c.args.facts.now c.in-Some.callings = rw c.in-Some.is at c.in_ok-callings.ensures in
     let uses = rw (c.as_slice-2.ensures.value, c.as_slice-pairs.ensures.value) at c.in_ok-accesses.ensures in
     let hands = rw (c.as_slice-3.ensures.value, c.as_slice-pairs.ensures.value) at c.in_ok-handings.ensures in
-    let why : c.of_stop.result ≡ TooManyRows = cc in
-    let many = many_of c.in-Err.stop (sym c.of_stop.ensures ∙ why) in
+    stopped c.args.program.now c.args.graph.now c.args.facts.now c.in-Err.stop c.of_stop.result c.of_stop.ensures (λ many.
     rows_are_more c.args.program.now c.args.graph.now c.args.facts.now c.in-Some.callings c.in_ok-accesses.accesses c.in_ok-handings.handings c.in_ok-tables.tables 200000
-    callings uses hands c.in_ok-tables.ensures (c.in-Err.ensures.many (ap Err many))
+    callings uses hands c.in_ok-tables.ensures (c.in-Err.ensures.many (ap Err many)))
