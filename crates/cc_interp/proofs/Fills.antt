@@ -32,8 +32,8 @@ next_filled old mid new G all k o os s m m' es at h t e = record {
   empty = e;
 }
 
-pub stopped_filled : (old mid new : List Event → Type 0) (G : Acts) (all : List Lasting) (k : ℕ) (o : Lasting) (os : List Lasting) (s : State) (m m' : Machine) (es : List Event) (why : Stop) → Filled old mid G all k (o ∷ os) s m → fill_one G k o m.state ≡ prepend es (Stops why) → Tells mid new es → RanPart old new (fill_lasting G 0 all) s (Some why) m'.state
-stopped_filled old mid new G all k o os s m m' es why at h t = record {
+pub stopped_filled : (old mid new : List Event → Type 0) (G : Acts) (all : List Lasting) (k : ℕ) (o : Lasting) (os : List Lasting) (s s' : State) (m : Machine) (es : List Event) (why : Stop) → Filled old mid G all k (o ∷ os) s m → fill_one G k o m.state ≡ prepend es (Stops why) → Tells mid new es → RanPart old new (fill_lasting G 0 all) s (Some why) s'
+stopped_filled old mid new G all k o os s s' m es why at h t = record {
   events = at.events ++ es;
   told = tells_on old mid new at.events es at.told t;
   run_is =

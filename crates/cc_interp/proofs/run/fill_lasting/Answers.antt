@@ -30,7 +30,7 @@ returns-in-Some-clause-ran g c =
     let os = drop (l.object-index + 1) objects in
     let rest : drop l.object-index objects ≡ o ∷ os = drop-cons objects l.object-index nothing c.loop-object-test.true ∙ ap (λ n. o ∷ drop n objects) (let e : suc l.object-index ≡ l.object-index + 1 = omega arith in e) in
     let h = one_is a.acts.now l.k o l.m.outbox c.fill_one.new.outbox (Some c.in-Some.stop) l.m.state c.fill_one.new.state l.invariant.empty (rw c.in-Some.is at c.in_ok-stop.ensures) in
-    stopped_filled _ _ _ a.acts.now objects l.k o os a.m.now.state l.m _ (reverse c.fill_one.new.outbox) c.in-Some.stop (rw rest at l.invariant) h c.in_ok-flush.ensures.told
+    stopped_filled _ _ _ a.acts.now objects l.k o os a.m.now.state _ l.m (reverse c.fill_one.new.outbox) c.in-Some.stop (rw rest at l.invariant) h c.in_ok-flush.ensures.told
 
 pub returns-in_err-flush-clause-err : goal.returns-in_err-flush-clause-err
 returns-in_err-flush-clause-err g c =

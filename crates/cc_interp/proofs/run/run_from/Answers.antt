@@ -15,3 +15,34 @@ returns-in_err-stop-clause-err g c =
     let a = c.args in
     let p = err_from_is_err_and c.from_residual.result c.from_residual.ensures.1 in
     rw p.1 (none_begun a.acts.now a.calls.now a.m.now.state _)
+
+pub returns-in_err-stop-in-None-clause-err : goal.returns-in_err-stop-in-None-clause-err
+returns-in_err-stop-in-None-clause-err g c =
+    let a = c.args in
+    let same = c.as_slice-objects.ensures in
+    let made = (rw c.in-None.is at c.in_ok-stop.ensures) ∙ ap (λ os. make_lasting os a.m.now.state) same in
+    let p = err_from_is_err_and c.from_residual-in_err-stop-in-None.result c.from_residual-in_err-stop-in-None.ensures.1 in
+    rw p.1 (fill_begun a.acts.now a.calls.now a.m.now.state _ _ c.make_lasting.new.state made (rw same at c.in_err-stop-in-None.ensures.err))
+
+pub returns-in-Some-2-clause-ran : goal.returns-in-Some-2-clause-ran
+returns-in-Some-2-clause-ran g c =
+    let a = c.args in
+    let same = c.as_slice-objects.ensures in
+    let made = (rw c.in-None.is at c.in_ok-stop.ensures) ∙ ap (λ os. make_lasting os a.m.now.state) same in
+    not_filled a.acts.now a.calls.now a.m.now.state _ _ c.in-Some-2.stop c.make_lasting.new.state _ made (rw (c.in-Some-2.is, same) at c.in_ok-stop-in-None.ensures.ran)
+
+pub returns-in-None-2-clause-ran : goal.returns-in-None-2-clause-ran
+returns-in-None-2-clause-ran g c =
+    let a = c.args in
+    let same = c.as_slice-objects.ensures in
+    let made = (rw c.in-None.is at c.in_ok-stop.ensures) ∙ ap (λ os. make_lasting os a.m.now.state) same in
+    let filled = rw (c.in-None-2.is, same) at c.in_ok-stop-in-None.ensures.ran in
+    IfOk-weaker c.run_calls.result (λ stop r. all_ran a.acts.now a.calls.now a.m.now.state _ _ _ stop c.make_lasting.new.state _ _ made filled r) c.run_calls.ensures.ran
+
+pub returns-in-None-2-clause-err : goal.returns-in-None-2-clause-err
+returns-in-None-2-clause-err g c =
+    let a = c.args in
+    let same = c.as_slice-objects.ensures in
+    let made = (rw c.in-None.is at c.in_ok-stop.ensures) ∙ ap (λ os. make_lasting os a.m.now.state) same in
+    let filled = rw (c.in-None-2.is, same) at c.in_ok-stop-in-None.ensures.ran in
+    ?
