@@ -1,5 +1,5 @@
 use Rattle.std.proofs.Common.{◌≡◌, ap, ◌∙◌, Some, None}
-use Rattle.std.proofs.lemmas.Result.{err_from_is_err_and, IfOk-weaker}
+use Rattle.std.proofs.lemmas.Result.{err_from_is_err_and, IfOk-weaker, on_err_weaker}
 use Rattle.cc_acts.specs.Runs.{Goes, Stops}
 use Rattle.cc_interp.specs.Tests.{make_lasting}
 use Rattle.cc_interp.proofs.Whole.{not_made, not_filled, all_ran, none_begun, fill_begun, calls_begun}
@@ -37,7 +37,7 @@ returns-in-None-2-clause-ran g c =
     let same = c.as_slice-objects.ensures in
     let made = (rw c.in-None.is at c.in_ok-stop.ensures) ∙ ap (λ os. make_lasting os a.m.now.state) same in
     let filled = rw (c.in-None-2.is, same) at c.in_ok-stop-in-None.ensures.ran in
-    IfOk-weaker c.run_calls.result (λ stop r. all_ran a.acts.now a.calls.now a.m.now.state _ _ _ stop c.make_lasting.new.state _ _ made filled r) c.run_calls.ensures.ran
+    IfOk-weaker c.run_calls.result _ _ (λ stop r. all_ran a.acts.now a.calls.now a.m.now.state _ _ _ stop c.make_lasting.new.state _ _ made filled r) c.run_calls.ensures.ran
 
 pub returns-in-None-2-clause-err : goal.returns-in-None-2-clause-err
 returns-in-None-2-clause-err g c =
@@ -45,4 +45,4 @@ returns-in-None-2-clause-err g c =
     let same = c.as_slice-objects.ensures in
     let made = (rw c.in-None.is at c.in_ok-stop.ensures) ∙ ap (λ os. make_lasting os a.m.now.state) same in
     let filled = rw (c.in-None-2.is, same) at c.in_ok-stop-in-None.ensures.ran in
-    ?
+    on_err_weaker c.run_calls.result (λ r. calls_begun a.acts.now a.calls.now a.m.now.state _ _ _ c.make_lasting.new.state _ made filled r) c.run_calls.ensures.err
