@@ -1,16 +1,16 @@
 -- From call to call of a test.
-use Rattle.std.proofs.Common.{◌≡◌, ℕ, zero, suc, ◌+◌, List, [], ◌∷◌, ◌++◌, Option, Some, None, refl, sym, ap, ◌∙◌, arith}
+use Rattle.std.proofs.Common.{◌≡◌, ℕ, ◌+◌, List, [], ◌∷◌, ◌++◌, Some, None, refl, sym, ap, ◌∙◌, arith}
 use Rattle.cc_meaning.specs.declared.event.Event.{Event}
 use Rattle.cc_meaning.specs.declared.test.TestCall.{TestCall}
 use Rattle.cc_acts.specs.declared.acts.Acts.{Acts}
 use Rattle.cc_acts.specs.declared.state.State.{State}
 use Rattle.cc_acts.specs.declared.stop.Stop.{Stop}
 use Rattle.cc_acts.specs.declared.stop.Stop.TheVariants.{Lost}
-use Rattle.cc_acts.specs.Runs.{Run, Then, Goes, Stops, Part, go_on, ◌>>◌}
+use Rattle.cc_acts.specs.Runs.{Run, Goes, Stops, Part, go_on, ◌>>◌}
 use Rattle.cc_acts.specs.Steps.{drive}
 use Rattle.cc_interp_step.specs.declared.machine.Machine.{Machine}
 use Rattle.cc_interp_step.specs.Progress.{config_of}
-use Rattle.cc_interp.specs.Ran.{Tells, prepend, ended, Ran, Begun}
+use Rattle.cc_interp.specs.Ran.{prepend, Ran, Begun}
 use Rattle.cc_interp.specs.Tested.{RanSteps, BegunSteps, Called, calls_of}
 use Rattle.cc_interp.specs.Tests.{run_calls, begin, drive_from}
 use Rattle.cc_interp.proofs.Reach.{go_on_prepend, prepend_on, tells_on, tells_none}

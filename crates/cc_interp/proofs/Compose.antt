@@ -1,14 +1,11 @@
 -- One part after another.
-use Rattle.std.proofs.Common.{◌≡◌, ℕ, zero, suc, ◌+◌, List, [], ◌∷◌, ◌++◌, Option, Some, None, refl, sym, ap, ◌∙◌, arith}
+use Rattle.std.proofs.Common.{◌≡◌, List, ◌++◌, ap, ◌∙◌}
 use Rattle.cc_meaning.specs.declared.event.Event.{Event}
-use Rattle.cc_meaning.specs.declared.test.TestCall.{TestCall}
-use Rattle.cc_acts.specs.declared.acts.Acts.{Acts}
 use Rattle.cc_acts.specs.declared.state.State.{State}
 use Rattle.cc_acts.specs.declared.stop.Stop.{Stop}
-use Rattle.cc_acts.specs.Runs.{Run, Then, Goes, Stops, Part, go_on, ◌>>◌}
-use Rattle.cc_interp.specs.Ran.{Tells, prepend, ended}
-use Rattle.cc_interp.specs.Tested.{RanPart, BegunPart, RanSteps, BegunSteps}
-use Rattle.cc_interp.proofs.Reach.{go_on_prepend, prepend_on, tells_on, tells_none}
+use Rattle.cc_acts.specs.Runs.{Run, Goes, Stops, Part, go_on, ◌>>◌}
+use Rattle.cc_interp.specs.Ran.{prepend}
+use Rattle.cc_interp.proofs.Reach.{go_on_prepend, prepend_on}
 
 -- where the first part stops, both do
 pub both_stop : (p q : Part (Unit {0})) (s : State) (es : List Event) (why : Stop) → p s ≡ prepend es (Stops why) → (p >> q) s ≡ prepend es (Stops why)

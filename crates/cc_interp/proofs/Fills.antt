@@ -1,14 +1,14 @@
 -- From object to object that is made before the first call.
-use Rattle.std.proofs.Common.{◌≡◌, ℕ, ◌+◌, List, [], ◌∷◌, ◌++◌, Option, Some, None, refl, sym, ap, ◌∙◌, reverse, append_assoc}
+use Rattle.std.proofs.Common.{◌≡◌, ℕ, ◌+◌, List, [], ◌∷◌, ◌++◌, Option, Some, None, refl, sym, ap, ◌∙◌, reverse}
 use Rattle.cc_meaning.specs.declared.event.Event.{Event}
 use Rattle.cc_acts.specs.declared.acts.Acts.{Acts}
 use Rattle.cc_acts.specs.declared.acts.Lasting.{Lasting}
 use Rattle.cc_acts.specs.declared.state.State.{State}
 use Rattle.cc_acts.specs.declared.stop.Stop.{Stop}
-use Rattle.cc_acts.specs.Runs.{Run, Then, Goes, Stops, Part, go_on, ◌>>◌}
+use Rattle.cc_acts.specs.Runs.{Run, Goes, Stops, Part, go_on}
 use Rattle.cc_interp_step.specs.declared.machine.Machine.{Machine}
 use Rattle.cc_interp_step.specs.Progress.{behind, done}
-use Rattle.cc_interp.specs.Ran.{Tells, TellsSome, prepend, ended}
+use Rattle.cc_interp.specs.Ran.{Tells, TellsSome, prepend}
 use Rattle.cc_interp.specs.Tested.{RanPart, BegunPart, Filled}
 use Rattle.cc_interp.specs.Tests.{fill_lasting, fill_one}
 use Rattle.cc_interp.proofs.Reach.{go_on_prepend, prepend_on, tells_on, tells_none, behind_is}

@@ -1,18 +1,17 @@
 -- From step to step, and to the end.
-use Rattle.std.proofs.Common.{◌≡◌, ℕ, zero, suc, ◌+◌, List, [], ◌∷◌, ◌++◌, Option, Some, None, refl, sym, ap, ◌∙◌, subst, arith, append_assoc, append-nil, reverse}
+use Rattle.std.proofs.Common.{◌≡◌, ℕ, suc, ◌+◌, List, [], ◌∷◌, ◌++◌, Some, None, refl, sym, ap, ◌∙◌, subst, arith, append_assoc, append-nil, reverse}
 use Rattle.std.specs.Prelude.{slice_get}
 use Rattle.std.proofs.lemmas.List.{reverse-append}
 use Rattle.cc_meaning.specs.declared.event.Event.{Event}
 use Rattle.cc_acts.specs.declared.acts.Acts.{Acts}
-use Rattle.cc_acts.specs.declared.state.State.{State}
 use Rattle.cc_acts.specs.declared.stop.Stop.{Stop}
-use Rattle.cc_acts.specs.Runs.{Run, Then, Goes, Stops, Cut, Part, go_on}
+use Rattle.cc_acts.specs.Runs.{Run, Then, Part, go_on}
 use Rattle.cc_acts.specs.Steps.{Config, drive, step_by}
 use Rattle.cc_interp_step.specs.declared.machine.Machine.{Machine}
 use Rattle.cc_interp_step.specs.declared.machine.Outcome.{Outcome}
 use Rattle.cc_interp_step.specs.declared.machine.Outcome.TheVariants.{Next, Back, Stopped}
 use Rattle.cc_interp_step.specs.Progress.{behind, left, told, outcome, config_of}
-use Rattle.cc_interp.specs.Ran.{Tells, TellsSome, prepend, ended, Ran, Begun, Reached}
+use Rattle.cc_interp.specs.Ran.{Tells, TellsSome, prepend, Ran, Begun, Reached}
 
 pub go_on_prepend : {A B : Type 0} (es : List Event) (r : Run A) (f : A → Part B) → go_on (prepend es r) f ≡ prepend es (go_on r f)
 go_on_prepend [] r f = refl

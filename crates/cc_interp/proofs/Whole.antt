@@ -1,16 +1,16 @@
 -- The whole run of a test, from its parts.
-use Rattle.std.proofs.Common.{◌≡◌, ℕ, ◌+◌, List, [], ◌∷◌, ◌++◌, Option, Some, None, refl, sym, ap, ◌∙◌}
+use Rattle.std.proofs.Common.{◌≡◌, ℕ, ◌+◌, List, [], ◌++◌, Option, Some, None, refl, sym, ap, ◌∙◌}
 use Rattle.cc_meaning.specs.declared.event.Event.{Event}
 use Rattle.cc_meaning.specs.declared.test.TestCall.{TestCall}
 use Rattle.cc_acts.specs.declared.acts.Acts.{Acts}
 use Rattle.cc_acts.specs.declared.state.State.{State}
 use Rattle.cc_acts.specs.declared.stop.Stop.{Stop}
-use Rattle.cc_acts.specs.Runs.{Run, Then, Goes, Stops, Part, go_on, ◌>>◌}
-use Rattle.cc_interp.specs.Ran.{Tells, prepend, ended}
+use Rattle.cc_acts.specs.Runs.{Goes, Stops, Part, go_on, ◌>>◌}
+use Rattle.cc_interp.specs.Ran.{ended}
 use Rattle.cc_interp.specs.Tested.{RanPart, BegunPart, RanSteps, BegunSteps, calls_of, run_with}
 use Rattle.cc_interp.specs.Tests.{make_lasting, fill_lasting, run_calls, run}
-use Rattle.cc_interp.proofs.Reach.{go_on_prepend, prepend_on, tells_on, tells_none}
-use Rattle.cc_interp.proofs.Compose.{both_stop, then_second, then_told}
+use Rattle.cc_interp.proofs.Reach.{go_on_prepend, tells_on, tells_none}
+use Rattle.cc_interp.proofs.Compose.{both_stop, then_told}
 
 module _ (G : Acts) (calls : List TestCall) (s : State) where
   -- the run, once the objects are made

@@ -8,7 +8,6 @@ use Rattle.cc_acts.specs.Runs.{Run, Then, Goes, Stops, go_on}
 use Rattle.cc_acts.specs.Steps.{drive}
 use Rattle.cc_interp_step.specs.declared.machine.Machine.{Machine}
 use Rattle.cc_interp_step.specs.declared.machine.Outcome.{Outcome}
-use Rattle.cc_interp_step.specs.declared.machine.Outcome.TheVariants.{Next}
 use Rattle.cc_interp_step.specs.Progress.{outcome, config_of}
 
 -- From what it stood for the watcher stands for these events more.

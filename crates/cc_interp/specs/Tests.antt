@@ -1,9 +1,7 @@
 -- The run of a test over a program's acts.
 use Rattle.std.specs.Prelude.{ℕ, ℤ, ◌+◌, List, [], ◌∷◌, Option, Some, None, Bool, true, false, take, drop, slice_get}
-use Rattle.cc_program.specs.declared.function.FuncId.{FuncId}
 use Rattle.cc_meaning.specs.declared.test.TestCall.{TestCall}
 use Rattle.cc_store.specs.declared.value.Pointer.{Pointer}
-use Rattle.cc_store.specs.declared.value.Value.{Value}
 use Rattle.cc_store.specs.declared.value.Value.TheVariants.{Int, Function}
 use Rattle.cc_store.specs.Objects.{made}
 use Rattle.cc_acts.specs.declared.acts.Acts.{Acts}
@@ -12,7 +10,7 @@ use Rattle.cc_acts.specs.declared.frame.Entry.{Entry}
 use Rattle.cc_acts.specs.declared.frame.Frame.{Frame}
 use Rattle.cc_acts.specs.declared.state.State.{State}
 use Rattle.cc_acts.specs.declared.stop.Stop.TheVariants.{Lost, CellsOut}
-use Rattle.cc_acts.specs.Runs.{Run, Goes, Stops, Part, ◌>>=◌, ◌>>◌, give, stop}
+use Rattle.cc_acts.specs.Runs.{Goes, Stops, Part, ◌>>◌, give, stop}
 use Rattle.cc_acts.specs.Parts.{with, has_room, fill_all}
 use Rattle.cc_acts.specs.Steps.{Config, At, drive}
 

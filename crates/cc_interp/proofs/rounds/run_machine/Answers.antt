@@ -1,4 +1,3 @@
-use Rattle.std.proofs.Common.{◌≡◌, ap, ◌∙◌, sym}
 use Rattle.std.proofs.lemmas.Result.{err_from_is_err_and}
 use Rattle.cc_interp_step.specs.declared.machine.Outcome.TheVariants.{Next}
 use Rattle.cc_interp.proofs.Reach.{begins, goes_on, returned, stopped, begun, begun_at}

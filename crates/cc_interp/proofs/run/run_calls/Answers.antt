@@ -1,11 +1,11 @@
-use Rattle.std.proofs.Common.{◌≡◌, ℕ, suc, List, ◌∷◌, ◌+◌, ◌<◌, length, drop, ap, sym, ◌∙◌, arith, Some, None}
+use Rattle.std.proofs.Common.{◌≡◌, ℕ, suc, List, ◌∷◌, ◌+◌, ◌<◌, length, drop, ap, sym, ◌∙◌, arith, Some}
 use Rattle.std.specs.Prelude.{slice_index_or}
 use Rattle.std.proofs.Math.Seq.{drop-cons}
 use Rattle.std.proofs.lemmas.Result.{err_from_is_err_and}
 use Rattle.cc_meaning.specs.declared.test.TestCall.{TestCall}
 use Rattle.cc_interp_step.specs.Progress.{config_of}
 use Rattle.cc_interp.specs.Tests.{begin}
-use Rattle.cc_interp.proofs.Calls.{called_none, next_call, stopped_call, begun_call, lost_call, called_all, begun_calls}
+use Rattle.cc_interp.proofs.Calls.{called_none, next_call, stopped_call, begun_call, begun_calls}
 use Rattle.cc_interp.proofs.run.run_calls.Goals as goal
 
 -- the calls from this one on

@@ -1,6 +1,5 @@
-use Rattle.std.proofs.Common.{◌≡◌, ap, ◌∙◌, Some, None}
+use Rattle.std.proofs.Common.{ap, ◌∙◌}
 use Rattle.std.proofs.lemmas.Result.{err_from_is_err_and, IfOk-weaker, on_err_weaker}
-use Rattle.cc_acts.specs.Runs.{Goes, Stops}
 use Rattle.cc_interp.specs.Tests.{make_lasting}
 use Rattle.cc_interp.proofs.Whole.{not_made, not_filled, all_ran, none_begun, fill_begun, calls_begun}
 use Rattle.cc_interp.proofs.run.run_from.Goals as goal
