@@ -1,11 +1,13 @@
 -- Arguments of calls, and whether their values are used.
-use Rattle.std.specs.Prelude.{ℕ, zero, suc, Bool, true, false, ◌||◌, cond, nat_eq, List, [], Option, Some, None, length, slice_get}
+use Rattle.std.specs.Prelude.{ℕ, zero, suc, Bool, true, false, not, ◌&&◌, ◌||◌, cond, nat_eq, List, [], Option, Some, None, length, slice_get}
 use Rattle.cc_arena.specs.Arenas.{node_of, parent_of, stretch}
 use Rattle.cc_arena.specs.declared.arena.Arena.{Arena}
 use Rattle.cc_arena.specs.declared.node.Node.{Node}
 use Rattle.cc_arena.specs.declared.node.Node.TheVariants as node
 use Rattle.cc_program.specs.declared.program.Program.{Program}
 use Rattle.cc_program.specs.Programs.{or_none}
+use Rattle.cc_types.specs.declared.expr_type.ExprType.{ExprType}
+use Rattle.cc_types.specs.declared.expr_type.ExprType.TheVariants as expr
 use Rattle.cc_types.specs.declared.shape.Shape.{Shape}
 use Rattle.cc_types.specs.declared.shape.Shape.TheVariants as shape
 use Rattle.cc_types.specs.declared.shape.TypeId.{TypeId}
@@ -60,7 +62,20 @@ abbrev pub used_within : Program → (count : ℕ) → ℕ → Bool
 used_within p zero n = true
 used_within p (suc count) n = used_around p (used_within p count) n (parent_of (slice_get p.arena.nodes n))
 
--- The value of a call is used. It is not where the call, parentheses aside, is a whole expression statement, a whole first
--- or third clause of a `for` or an operand of the comma there, or the operand of a cast to void.
+-- the value of an expression is used, by the nodes around it
+abbrev pub is_taken : Program → ℕ → Bool
+is_taken p n = used_within p (length p.arena.nodes) n
+
+abbrev pub is_void_expr : Option ExprType → Bool
+is_void_expr (Some (expr.Plain s)) = is_void_shape s
+is_void_expr (Some (expr.Address s)) = false
+is_void_expr None = false
+
+-- the call has no value: its function's result is void
+abbrev pub has_none : Program → ℕ → Bool
+has_none p site = is_void_expr (or_none (slice_get p.known.found.types site))
+
+-- The call has a value that is used. It is not used where the call, parentheses aside, is a whole expression statement, a
+-- whole first or third clause of a `for` or an operand of the comma there, or the operand of a cast to void.
 abbrev pub is_used : Program → ℕ → Bool
-is_used p site = used_within p (length p.arena.nodes) site
+is_used p site = not (has_none p site) && is_taken p site

@@ -4,7 +4,7 @@ ghost use Rattle.cc_roles.specs.Calls as spec;
 
 use cc_arena::Node;
 use cc_program::Program;
-use cc_types::Shape;
+use cc_types::{ExprType, Shape};
 
 /// The arguments of a call, in order.
 pub fn arguments(program: &Program, site: u32) -> &[u32]
@@ -80,11 +80,20 @@ fn fate_of(program: &Program, node: u32, around: Option<Node>) -> Fate
     }
 }
 
-/// Whether the value of a call is used. It is not where the call, parentheses aside, is a whole expression statement, a
-/// whole first or third clause of a `for` or an operand of the comma there, or the operand of a cast to void.
+// Whether the call has no value: its function's result is void.
+fn has_none(program: &Program, site: u32) -> bool
+    ensures { result ≡ spec.has_none program.now site }
+{
+    match program.type_of(site) {
+        Some(ExprType::Plain(shape)) => is_void_shape(shape),
+        Some(ExprType::Address(_)) | None => false,
+    }
+}
+
+// Whether the value of an expression is used, by the nodes around it.
 #[tactic(auto, using(crate::proofs::Steps::used_step, crate::proofs::Steps::used_dropped, crate::proofs::Steps::used_used, crate::proofs::Steps::used_none, crate::proofs::Steps::used_end))]
-pub fn is_used(program: &Program, site: u32) -> bool
-    ensures { result ≡ spec.is_used program.now site }
+fn is_taken(program: &Program, site: u32) -> bool
+    ensures { result ≡ spec.is_taken program.now site }
 {
     let mut at = site;
     for _ in 0..program.arena().nodes.len() {
@@ -98,4 +107,12 @@ pub fn is_used(program: &Program, site: u32) -> bool
         }
     }
     true
+}
+
+/// Whether a call has a value that is used. It is not used where the call, parentheses aside, is a whole expression
+/// statement, a whole first or third clause of a `for` or an operand of the comma there, or the operand of a cast to void.
+pub fn is_used(program: &Program, site: u32) -> bool
+    ensures { result ≡ spec.is_used program.now site }
+{
+    !has_none(program, site) && is_taken(program, site)
 }
