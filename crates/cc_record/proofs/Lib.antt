@@ -1,0 +1,5 @@
+pub mod AskedFacts
+pub mod SlotLaws
+pub mod EventSteps
+pub mod Enters
+pub mod Moves

@@ -1,0 +1,4 @@
+pub mod Asked
+pub mod Recording
+pub mod Roles
+pub mod Steps
