@@ -106,6 +106,10 @@ pub fails_at_7 : (a1 a2 a3 a4 a5 a6 a7 rest : List Rule) (e : ProjectFault) → 
 fails_at_7 a1 a2 a3 a4 a5 a6 a7 rest e n1 n2 n3 n4 n5 n6 r =
     Reports-back a1 (a2 ++ (a3 ++ (a4 ++ (a5 ++ (a6 ++ (a7 ++ rest)))))) e n1 (fails_at_6 a2 a3 a4 a5 a6 a7 rest e n2 n3 n4 n5 n6 r)
 
+pub fails_at_8 : (a1 a2 a3 a4 a5 a6 a7 a8 rest : List Rule) (e : ProjectFault) → first_failing a1 ≡ None → first_failing a2 ≡ None → first_failing a3 ≡ None → first_failing a4 ≡ None → first_failing a5 ≡ None → first_failing a6 ≡ None → first_failing a7 ≡ None → Reports (first_failing a8) e → Reports (first_failing (a1 ++ (a2 ++ (a3 ++ (a4 ++ (a5 ++ (a6 ++ (a7 ++ (a8 ++ rest))))))))) e
+fails_at_8 a1 a2 a3 a4 a5 a6 a7 a8 rest e n1 n2 n3 n4 n5 n6 n7 r =
+    Reports-back a1 (a2 ++ (a3 ++ (a4 ++ (a5 ++ (a6 ++ (a7 ++ (a8 ++ rest))))))) e n1 (fails_at_7 a2 a3 a4 a5 a6 a7 a8 rest e n2 n3 n4 n5 n6 n7 r)
+
 -- the last part has no rest
 
 pub fails_last_2 : (a1 a2 : List Rule) (e : ProjectFault) → first_failing a1 ≡ None → Reports (first_failing a2) e → Reports (first_failing (a1 ++ a2)) e
@@ -113,6 +117,12 @@ fails_last_2 a1 a2 e n1 r = (Reports-back a1 a2 e n1 r)
 
 pub all_hold_2 : (a1 a2 : List Rule) → first_failing a1 ≡ None → first_failing a2 ≡ None → first_failing (a1 ++ a2) ≡ None
 all_hold_2 a1 a2 n1 n2 = (both_none a1 a2 n1 n2)
+
+pub fails_last_3 : (a1 a2 a3 : List Rule) (e : ProjectFault) → first_failing a1 ≡ None → first_failing a2 ≡ None → Reports (first_failing a3) e → Reports (first_failing (a1 ++ (a2 ++ a3))) e
+fails_last_3 a1 a2 a3 e n1 n2 r = (Reports-back a1 (a2 ++ a3) e n1 (Reports-back a2 a3 e n2 r))
+
+pub all_hold_3 : (a1 a2 a3 : List Rule) → first_failing a1 ≡ None → first_failing a2 ≡ None → first_failing a3 ≡ None → first_failing (a1 ++ (a2 ++ a3)) ≡ None
+all_hold_3 a1 a2 a3 n1 n2 n3 = (both_none a1 (a2 ++ a3) n1 (both_none a2 a3 n2 n3))
 
 pub fails_last_5 : (a1 a2 a3 a4 a5 : List Rule) (e : ProjectFault) → first_failing a1 ≡ None → first_failing a2 ≡ None → first_failing a3 ≡ None → first_failing a4 ≡ None → Reports (first_failing a5) e → Reports (first_failing (a1 ++ (a2 ++ (a3 ++ (a4 ++ a5))))) e
 fails_last_5 a1 a2 a3 a4 a5 e n1 n2 n3 n4 r = (Reports-back a1 (a2 ++ (a3 ++ (a4 ++ a5))) e n1 (Reports-back a2 (a3 ++ (a4 ++ a5)) e n2 (Reports-back a3 (a4 ++ a5) e n3 (Reports-back a4 a5 e n4 r))))
@@ -126,13 +136,19 @@ fails_last_6 a1 a2 a3 a4 a5 a6 e n1 n2 n3 n4 n5 r = (Reports-back a1 (a2 ++ (a3 
 pub all_hold_6 : (a1 a2 a3 a4 a5 a6 : List Rule) → first_failing a1 ≡ None → first_failing a2 ≡ None → first_failing a3 ≡ None → first_failing a4 ≡ None → first_failing a5 ≡ None → first_failing a6 ≡ None → first_failing (a1 ++ (a2 ++ (a3 ++ (a4 ++ (a5 ++ a6))))) ≡ None
 all_hold_6 a1 a2 a3 a4 a5 a6 n1 n2 n3 n4 n5 n6 = (both_none a1 (a2 ++ (a3 ++ (a4 ++ (a5 ++ a6)))) n1 (both_none a2 (a3 ++ (a4 ++ (a5 ++ a6))) n2 (both_none a3 (a4 ++ (a5 ++ a6)) n3 (both_none a4 (a5 ++ a6) n4 (both_none a5 a6 n5 n6)))))
 
-pub fails_last_8 : (a1 a2 a3 a4 a5 a6 a7 a8 : List Rule) (e : ProjectFault) → first_failing a1 ≡ None → first_failing a2 ≡ None → first_failing a3 ≡ None → first_failing a4 ≡ None → first_failing a5 ≡ None → first_failing a6 ≡ None → first_failing a7 ≡ None → Reports (first_failing a8) e → Reports (first_failing (a1 ++ (a2 ++ (a3 ++ (a4 ++ (a5 ++ (a6 ++ (a7 ++ a8)))))))) e
-fails_last_8 a1 a2 a3 a4 a5 a6 a7 a8 e n1 n2 n3 n4 n5 n6 n7 r = (Reports-back a1 (a2 ++ (a3 ++ (a4 ++ (a5 ++ (a6 ++ (a7 ++ a8)))))) e n1 (Reports-back a2 (a3 ++ (a4 ++ (a5 ++ (a6 ++ (a7 ++ a8))))) e n2 (Reports-back a3 (a4 ++ (a5 ++ (a6 ++ (a7 ++ a8)))) e n3 (Reports-back a4 (a5 ++ (a6 ++ (a7 ++ a8))) e n4 (Reports-back a5 (a6 ++ (a7 ++ a8)) e n5 (Reports-back a6 (a7 ++ a8) e n6 (Reports-back a7 a8 e n7 r)))))))
+pub fails_last_9 : (a1 a2 a3 a4 a5 a6 a7 a8 a9 : List Rule) (e : ProjectFault) → first_failing a1 ≡ None → first_failing a2 ≡ None → first_failing a3 ≡ None → first_failing a4 ≡ None → first_failing a5 ≡ None → first_failing a6 ≡ None → first_failing a7 ≡ None → first_failing a8 ≡ None → Reports (first_failing a9) e → Reports (first_failing (a1 ++ (a2 ++ (a3 ++ (a4 ++ (a5 ++ (a6 ++ (a7 ++ (a8 ++ a9))))))))) e
+fails_last_9 a1 a2 a3 a4 a5 a6 a7 a8 a9 e n1 n2 n3 n4 n5 n6 n7 n8 r = (Reports-back a1 (a2 ++ (a3 ++ (a4 ++ (a5 ++ (a6 ++ (a7 ++ (a8 ++ a9))))))) e n1 (Reports-back a2 (a3 ++ (a4 ++ (a5 ++ (a6 ++ (a7 ++ (a8 ++ a9)))))) e n2 (Reports-back a3 (a4 ++ (a5 ++ (a6 ++ (a7 ++ (a8 ++ a9))))) e n3 (Reports-back a4 (a5 ++ (a6 ++ (a7 ++ (a8 ++ a9)))) e n4 (Reports-back a5 (a6 ++ (a7 ++ (a8 ++ a9))) e n5 (Reports-back a6 (a7 ++ (a8 ++ a9)) e n6 (Reports-back a7 (a8 ++ a9) e n7 (Reports-back a8 a9 e n8 r))))))))
 
-pub all_hold_8 : (a1 a2 a3 a4 a5 a6 a7 a8 : List Rule) → first_failing a1 ≡ None → first_failing a2 ≡ None → first_failing a3 ≡ None → first_failing a4 ≡ None → first_failing a5 ≡ None → first_failing a6 ≡ None → first_failing a7 ≡ None → first_failing a8 ≡ None → first_failing (a1 ++ (a2 ++ (a3 ++ (a4 ++ (a5 ++ (a6 ++ (a7 ++ a8))))))) ≡ None
-all_hold_8 a1 a2 a3 a4 a5 a6 a7 a8 n1 n2 n3 n4 n5 n6 n7 n8 = (both_none a1 (a2 ++ (a3 ++ (a4 ++ (a5 ++ (a6 ++ (a7 ++ a8)))))) n1 (both_none a2 (a3 ++ (a4 ++ (a5 ++ (a6 ++ (a7 ++ a8))))) n2 (both_none a3 (a4 ++ (a5 ++ (a6 ++ (a7 ++ a8)))) n3 (both_none a4 (a5 ++ (a6 ++ (a7 ++ a8))) n4 (both_none a5 (a6 ++ (a7 ++ a8)) n5 (both_none a6 (a7 ++ a8) n6 (both_none a7 a8 n7 n8)))))))
+pub all_hold_9 : (a1 a2 a3 a4 a5 a6 a7 a8 a9 : List Rule) → first_failing a1 ≡ None → first_failing a2 ≡ None → first_failing a3 ≡ None → first_failing a4 ≡ None → first_failing a5 ≡ None → first_failing a6 ≡ None → first_failing a7 ≡ None → first_failing a8 ≡ None → first_failing a9 ≡ None → first_failing (a1 ++ (a2 ++ (a3 ++ (a4 ++ (a5 ++ (a6 ++ (a7 ++ (a8 ++ a9)))))))) ≡ None
+all_hold_9 a1 a2 a3 a4 a5 a6 a7 a8 a9 n1 n2 n3 n4 n5 n6 n7 n8 n9 = (both_none a1 (a2 ++ (a3 ++ (a4 ++ (a5 ++ (a6 ++ (a7 ++ (a8 ++ a9))))))) n1 (both_none a2 (a3 ++ (a4 ++ (a5 ++ (a6 ++ (a7 ++ (a8 ++ a9)))))) n2 (both_none a3 (a4 ++ (a5 ++ (a6 ++ (a7 ++ (a8 ++ a9))))) n3 (both_none a4 (a5 ++ (a6 ++ (a7 ++ (a8 ++ a9)))) n4 (both_none a5 (a6 ++ (a7 ++ (a8 ++ a9))) n5 (both_none a6 (a7 ++ (a8 ++ a9)) n6 (both_none a7 (a8 ++ a9) n7 (both_none a8 a9 n8 n9))))))))
 
 -- where all hold, each part holds
+
+pub parts_of_3 : (a1 a2 a3 : List Rule) → first_failing (a1 ++ (a2 ++ a3)) ≡ None → (first_failing a1 ≡ None) × (first_failing a2 ≡ None) × (first_failing a3 ≡ None)
+parts_of_3 a1 a2 a3 none =
+    let p1 = first-parts a1 (a2 ++ a3) none in
+    let p2 = first-parts a2 a3 p1.1 in
+    (p1.0, p2.0, p2.1)
 
 pub parts_of_5 : (a1 a2 a3 a4 a5 : List Rule) → first_failing (a1 ++ (a2 ++ (a3 ++ (a4 ++ a5)))) ≡ None → (first_failing a1 ≡ None) × (first_failing a2 ≡ None) × (first_failing a3 ≡ None) × (first_failing a4 ≡ None) × (first_failing a5 ≡ None)
 parts_of_5 a1 a2 a3 a4 a5 none =
@@ -151,13 +167,14 @@ parts_of_6 a1 a2 a3 a4 a5 a6 none =
     let p5 = first-parts a5 a6 p4.1 in
     (p1.0, p2.0, p3.0, p4.0, p5.0, p5.1)
 
-pub parts_of_8 : (a1 a2 a3 a4 a5 a6 a7 a8 : List Rule) → first_failing (a1 ++ (a2 ++ (a3 ++ (a4 ++ (a5 ++ (a6 ++ (a7 ++ a8))))))) ≡ None → (first_failing a1 ≡ None) × (first_failing a2 ≡ None) × (first_failing a3 ≡ None) × (first_failing a4 ≡ None) × (first_failing a5 ≡ None) × (first_failing a6 ≡ None) × (first_failing a7 ≡ None) × (first_failing a8 ≡ None)
-parts_of_8 a1 a2 a3 a4 a5 a6 a7 a8 none =
-    let p1 = first-parts a1 (a2 ++ (a3 ++ (a4 ++ (a5 ++ (a6 ++ (a7 ++ a8)))))) none in
-    let p2 = first-parts a2 (a3 ++ (a4 ++ (a5 ++ (a6 ++ (a7 ++ a8))))) p1.1 in
-    let p3 = first-parts a3 (a4 ++ (a5 ++ (a6 ++ (a7 ++ a8)))) p2.1 in
-    let p4 = first-parts a4 (a5 ++ (a6 ++ (a7 ++ a8))) p3.1 in
-    let p5 = first-parts a5 (a6 ++ (a7 ++ a8)) p4.1 in
-    let p6 = first-parts a6 (a7 ++ a8) p5.1 in
-    let p7 = first-parts a7 a8 p6.1 in
-    (p1.0, p2.0, p3.0, p4.0, p5.0, p6.0, p7.0, p7.1)
+pub parts_of_9 : (a1 a2 a3 a4 a5 a6 a7 a8 a9 : List Rule) → first_failing (a1 ++ (a2 ++ (a3 ++ (a4 ++ (a5 ++ (a6 ++ (a7 ++ (a8 ++ a9)))))))) ≡ None → (first_failing a1 ≡ None) × (first_failing a2 ≡ None) × (first_failing a3 ≡ None) × (first_failing a4 ≡ None) × (first_failing a5 ≡ None) × (first_failing a6 ≡ None) × (first_failing a7 ≡ None) × (first_failing a8 ≡ None) × (first_failing a9 ≡ None)
+parts_of_9 a1 a2 a3 a4 a5 a6 a7 a8 a9 none =
+    let p1 = first-parts a1 (a2 ++ (a3 ++ (a4 ++ (a5 ++ (a6 ++ (a7 ++ (a8 ++ a9))))))) none in
+    let p2 = first-parts a2 (a3 ++ (a4 ++ (a5 ++ (a6 ++ (a7 ++ (a8 ++ a9)))))) p1.1 in
+    let p3 = first-parts a3 (a4 ++ (a5 ++ (a6 ++ (a7 ++ (a8 ++ a9))))) p2.1 in
+    let p4 = first-parts a4 (a5 ++ (a6 ++ (a7 ++ (a8 ++ a9)))) p3.1 in
+    let p5 = first-parts a5 (a6 ++ (a7 ++ (a8 ++ a9))) p4.1 in
+    let p6 = first-parts a6 (a7 ++ (a8 ++ a9)) p5.1 in
+    let p7 = first-parts a7 (a8 ++ a9) p6.1 in
+    let p8 = first-parts a8 a9 p7.1 in
+    (p1.0, p2.0, p3.0, p4.0, p5.0, p6.0, p7.0, p8.0, p8.1)

@@ -6,9 +6,9 @@ use Rattle.toml.specs.Data.{Data, string, integer, float, boolean, datetime, arr
 use Rattle.toml.specs.declared.value.Value.{Value}
 use Rattle.cc_project.specs.Rules as rule
 use Rattle.cc_project.specs.Values.{texts_in, is_array, is_list, is_there, is_missing_or, is_table, items_of, items_in, list_of}
-use Rattle.cc_project.specs.Order.{at, new_array_rules, components_rules, tests_rules, rules_of, first_failing, shape_fault}
+use Rattle.cc_project.specs.Order.{at, new_array_rules, components_rules, tests_rules, justified_rules, rules_of, first_failing, shape_fault}
 use Rattle.cc_project.specs.Views.{all_data}
-use Rattle.cc_project.proofs.Firsts.{parts_of_8, at-holds}
+use Rattle.cc_project.proofs.Firsts.{parts_of_9, at-holds}
 use Rattle.cc_project.proofs.Values.{length_of_data}
 
 -- ---- Sizes of arrays
@@ -50,9 +50,10 @@ pub document_parts : (document : Data) → shape_fault document ≡ None
     × (first_failing (new_array_rules (codes "environment") 9 (rule.is_environment_array (get (codes "environment") document)) (rule.is_environment (texts_in (get (codes "entries") document))) (get (codes "environment") document)) ≡ None)
     × (first_failing (at (codes "test") 10 (rule.is_test_array (get (codes "test") document))) ≡ None)
     × (first_failing (tests_rules 0 [] (items_in (get (codes "test") document))) ≡ None)
+    × (first_failing (justified_rules (rule.justified_in document)) ≡ None)
     × (first_failing (at (codes "top") 14 (rule.has_only_document_keys document)) ≡ None)
 unfolding rules_of
-document_parts document none = parts_of_8 _ _ _ _ _ _ _ _ none
+document_parts document none = parts_of_9 _ _ _ _ _ _ _ _ _ none
 
 -- ---- The number of components
 

@@ -7,9 +7,9 @@ use Rattle.toml.specs.View.{view}
 use Rattle.toml.specs.declared.value.Value.{Value}
 use Rattle.cc_project.specs.Names.{is_new, is_function_name}
 use Rattle.cc_project.specs.Places.{item_key}
-use Rattle.cc_project.specs.Values.{text_of, text_in}
+use Rattle.cc_project.specs.Values.{text_of, text_in, is_there, is_text}
 use Rattle.cc_project.specs.Rules as rule
-use Rattle.cc_project.specs.Order.{at, array_rules, at_each, at_each_new, component_rules, components_rules, test_rules, tests_rules, name_of, files_of, first_failing}
+use Rattle.cc_project.specs.Order.{at, array_rules, at_each, at_each_new, component_rules, components_rules, test_rules, tests_rules, justification_rules, justifications_rules, name_of, files_of, line_of, first_failing}
 use Rattle.cc_project.specs.Outcome.{Reports}
 use Rattle.cc_project.specs.Views.{all_data, texts_of}
 use Rattle.cc_project.specs.declared.fault.ProjectFault.{ProjectFault}
@@ -116,7 +116,7 @@ first_true holds a b e holds_true = (and_parts a b (sym e ∙ holds_true)).0
 pub second_true : (holds a b : Bool) → holds ≡ (a && b) → holds ≡ true → b ≡ true
 second_true holds a b e holds_true = (and_parts a b (sym e ∙ holds_true)).1
 
--- ---- Components and tests
+-- ---- Components, tests and justifications
 
 pub component_fails : (i : ℕ) (names files : List (List ℕ)) (vs : List Value) (value : Value) (whole : Option Fault) (e : ProjectFault)
     → i < length vs → value ≡ get_or vs i value → first_failing (components_rules i names files (all_data (drop i vs))) ≡ whole
@@ -157,6 +157,25 @@ pub tests_end : (i : ℕ) (names : List (List ℕ)) (vs : List Value) (whole : O
 tests_end i names vs whole past left =
     sym left ∙ ap (λ ds. first_failing (tests_rules i names ds)) (no_data_left vs i past) ∙ none_of_none
 
+pub justification_fails : (i : ℕ) (lines : List (List ℕ)) (vs : List Value) (value : Value) (whole : Option Fault) (e : ProjectFault)
+    → i < length vs → value ≡ get_or vs i value → first_failing (justifications_rules i lines (all_data (drop i vs))) ≡ whole
+    → Reports (first_failing (justification_rules i lines (view value))) e → Reports whole e
+justification_fails i lines vs value whole e below is left r =
+    round_fails _ (justification_rules i lines (view value)) _ whole e left (ap (λ ds. first_failing (justifications_rules i lines ds)) (data_left vs i value below is)) r
+
+pub justification_holds : (i : ℕ) (lines lines' : List (List ℕ)) (vs : List Value) (value : Value) (whole : Option Fault)
+    → i < length vs → value ≡ get_or vs i value → first_failing (justifications_rules i lines (all_data (drop i vs))) ≡ whole
+    → first_failing (justification_rules i lines (view value)) ≡ None → lines' ≡ lines ++ line_of (view value) ∷ []
+    → first_failing (justifications_rules (i + 1) lines' (all_data (drop (i + 1) vs))) ≡ whole
+justification_holds i lines lines' vs value whole below is left none lined =
+    ap (λ seen. first_failing (justifications_rules (i + 1) seen (all_data (drop (i + 1) vs)))) lined
+    ∙ round_holds _ (justification_rules i lines (view value)) _ whole left (ap (λ ds. first_failing (justifications_rules i lines ds)) (data_left vs i value below is)) none
+
+pub justifications_end : (i : ℕ) (lines : List (List ℕ)) (vs : List Value) (whole : Option Fault)
+    → length vs ≤ i → first_failing (justifications_rules i lines (all_data (drop i vs))) ≡ whole → whole ≡ None
+justifications_end i lines vs whole past left =
+    sym left ∙ ap (λ ds. first_failing (justifications_rules i lines ds)) (no_data_left vs i past) ∙ none_of_none
+
 -- ---- One rule, in the words of the code and in those of the rules
 
 pub moved : (key key' : List ℕ) (n : ℕ) (h h' : Bool) → key ≡ key' → h ≡ h' → first_failing (at key n h) ≡ first_failing (at key' n h')
@@ -184,3 +203,9 @@ pub test_name_holds : (holds added : Bool) (names : List (List ℕ)) (seen value
 test_name_holds holds added names seen value text a b c d =
     a ∙ ap (λ x. rule.is_component_name seen && x) b ∙ ap (λ t. rule.is_component_name seen && is_new names t) c
     ∙ ap (λ v. rule.is_component_name v && is_new names (text_in v)) d
+
+pub line_holds : (holds added : Bool) (lines : List (List ℕ)) (seen value : Option Data) (text : List ℕ) → holds ≡ (is_there is_text seen && added)
+    → added ≡ is_new lines text → text ≡ text_in seen → seen ≡ value → holds ≡ rule.is_line lines value
+line_holds holds added lines seen value text a b c d =
+    a ∙ ap (λ x. is_there is_text seen && x) b ∙ ap (λ t. is_there is_text seen && is_new lines t) c
+    ∙ ap (λ v. is_there is_text v && is_new lines (text_in v)) d

@@ -1,5 +1,5 @@
 -- A document that breaks no rule says a project that is well made.
-use Rattle.std.proofs.Common.{◌≡◌, ◌≢◌, ◌≤◌, ◌<◌, ℕ, ◌+◌, pos, negsuc, nat_abs, Bool, true, ◌&&◌, List, [], ◌∷◌, ◌++◌, length, map, Option, Some, None, codes, suc, refl, ap, subst, sym, ◌∙◌, ⊎_elim, zero-add, arith}
+use Rattle.std.proofs.Common.{◌≡◌, ◌≢◌, ◌≤◌, ◌<◌, ℕ, ◌+◌, pos, negsuc, nat_abs, Bool, true, false, ◌&&◌, List, [], ◌∷◌, ◌++◌, length, map, Option, Some, None, codes, suc, cond, ◌⊎◌, inl, inr, refl, ap, subst, sym, ◌∙◌, ⊎_elim, zero-add, arith}
 use Rattle.std.specs.List.{list_all, All, AllByRecursion, AllPass, Any, Contains}
 use Rattle.std.proofs.lemmas.Bool.{and_parts, false≢true, leb-true, cases_eq, cond-true}
 use Rattle.std.proofs.lemmas.List.{length-map, map-append}
@@ -9,14 +9,15 @@ use Rattle.toml.specs.Data.{Data, string, integer, float, boolean, datetime, arr
 use Rattle.cc_project.specs.declared.project.ProjectFile.{ProjectFile}
 use Rattle.cc_project.specs.declared.project.RawCall.{RawCall}
 use Rattle.cc_project.specs.declared.project.RawTest.{RawTest}
-use Rattle.cc_project.specs.Names.{is_name, is_file_name, is_requirement, is_function_name, is_new}
+use Rattle.cc_project.specs.declared.project.RawJustified.{RawJustified}
+use Rattle.cc_project.specs.Names.{is_name, is_file_name, is_requirement, is_reason, is_function_name, is_new}
 use Rattle.cc_project.specs.Places.{item_key, member_key}
 use Rattle.cc_project.specs.Rules as rule
 use Rattle.cc_project.specs.Values.{is_any, is_text, is_integer, is_table, text_of, text_in, integer_of, items_in, texts_in, list_of}
-use Rattle.cc_project.specs.Order.{at, at_each_new, array_rules, component_rules, components_rules, test_rules, tests_rules, first_failing, shape_fault, name_of, files_of}
-use Rattle.cc_project.specs.Project.{files_in, files_from, call_in, call_of, turns_in, test_of, project_of}
-use Rattle.cc_project.specs.WellMade.{AllDiffer, AreInOrder, file_names_of, test_names_of, IsWellMadeTest, IsWellMade}
-use Rattle.cc_project.proofs.Firsts.{first-parts, parts_of_5, parts_of_6, at-holds}
+use Rattle.cc_project.specs.Order.{at, at_each_new, array_rules, component_rules, components_rules, test_rules, tests_rules, justification_rules, justifications_rules, first_failing, shape_fault, name_of, files_of, line_of}
+use Rattle.cc_project.specs.Project.{files_in, files_from, call_in, call_of, turns_in, test_of, format_of, justified_of, project_of}
+use Rattle.cc_project.specs.WellMade.{AllDiffer, AreInOrder, file_names_of, test_names_of, lines_of, reasons_of, IsWellMadeTest, IsWellMade}
+use Rattle.cc_project.proofs.Firsts.{first-parts, parts_of_3, parts_of_5, parts_of_6, at-holds}
 use Rattle.cc_project.proofs.Limits.{there_size, missing_size, document_parts}
 use Rattle.cc_project.proofs.Passes.{array_passes, text_passes, texts_pass, PassAfter, new_array_passes, new_items_pass, PassAfter-append, PassAfter-each, new_is_other, PassAfter-differ, none_differ, few_new_files}
 
@@ -228,6 +229,36 @@ tests_pass i names (test ∷ rest) none =
     let more = tests_pass (i + 1) (names ++ name_of test ∷ []) rest parts.1 in
     (All-cons IsWellMadeTest (test_of test) (map test_of rest) first.0 more.0, (first.1, more.1))
 
+-- ---- Justifications
+
+justification_passes : (i : ℕ) (lines : List (List ℕ)) (justified : Data) → first_failing (justification_rules i lines justified) ≡ None
+    → (is_reason ((justified_of justified).reason) ≡ true) × (is_new lines (line_of justified) ≡ true)
+unfolding justification_rules
+justification_passes i lines justified none =
+    let parts = parts_of_3 _ _ _ none in (
+      text_passes is_reason (get (codes "reason") justified) (at-holds _ _ _ parts.1),
+      second_of _ _ (at-holds _ _ _ parts.0),
+    )
+
+justifications_pass : (i : ℕ) (lines : List (List ℕ)) (items : List Data) → first_failing (justifications_rules i lines items) ≡ None
+    → AllPass is_reason (reasons_of (map justified_of items)) × PassAfter is_new lines (lines_of (map justified_of items))
+justifications_pass i lines [] none = (All-nil (λ text. is_reason text ≡ true), tt)
+justifications_pass i lines (justified ∷ rest) none =
+    let parts = first-parts (justification_rules i lines justified) (justifications_rules (i + 1) (lines ++ line_of justified ∷ []) rest) none in
+    let first = justification_passes i lines justified parts.0 in
+    let more = justifications_pass (i + 1) (lines ++ line_of justified ∷ []) rest parts.1 in
+    (All-cons (λ text. is_reason text ≡ true) ((justified_of justified).reason) (reasons_of (map justified_of rest)) first.0 more.0, (first.1, more.1))
+
+-- ---- The format
+
+one_or_two : (second : Bool) (format : ℕ) → format ≡ cond second 2 1 → (format ≡ 1) ⊎ (format ≡ 2)
+one_or_two true format is = inr is
+one_or_two false format is = inl is
+
+none_in_first : (second : Bool) (value : Option Data) (format : ℕ) → format ≡ cond second 2 1 → format ≡ 1 → map justified_of (items_in (cond second value None)) ≡ []
+none_in_first true value format is first = absurd (omega (arith, is, first))
+none_in_first false value format is first = refl
+
 -- ---- The document
 
 not_among : (texts : List (List ℕ)) (text : List ℕ) → is_new texts text ≡ true → Contains texts text → ⊥
@@ -245,7 +276,10 @@ well_made document none =
     let entry_size = there_size 1 256 is_text (get (codes "entries") document) entry.0 in
     let outer = new_array_passes _ _ _ (rule.is_environment entries) (get (codes "environment") document) parts.4 in
     let tests = tests_pass 0 [] (items_in (get (codes "test") document)) parts.6 in
+    let justified = first-parts _ _ parts.7 in
+    let justifications = justifications_pass 0 [] (items_in (rule.justified_in document)) justified.1 in
     record {
+      format = one_or_two (rule.is_second document) (format_of document) refl;
       some_component = same_least name_of found 1 found_size.0;
       few_components = same_length name_of found 64 found_size.1;
       component_names = component_names_pass found components.each;
@@ -269,15 +303,21 @@ well_made document none =
       few_tests = same_length test_of _ 1000 (missing_size 1000 is_table (get (codes "test") document) (at-holds _ _ _ parts.5));
       tests = tests.0;
       tests_differ = PassAfter-differ is_new (λ _ _ new. new) [] (test_names_of (map test_of (items_in (get (codes "test") document)))) none_differ tests.1;
+      first_has_none = none_in_first (rule.is_second document) (get (codes "justified") document) (format_of document) refl;
+      few_justified = same_length justified_of _ 1000 (missing_size 1000 is_table (rule.justified_in document) (at-holds _ _ _ justified.0));
+      lines_differ = PassAfter-differ is_new (λ _ _ new. new) [] (lines_of (map justified_of (items_in (rule.justified_in document)))) none_differ justifications.1;
+      reasons = justifications.0;
     }
 
 -- what was copied from the document is well made
-pub copied_well : (document : Data) (components : List (List ℕ)) (files : List ProjectFile) (entries environment : List (List ℕ)) (tests : List RawTest)
+pub copied_well : (document : Data) (format : ℕ) (components : List (List ℕ)) (files : List ProjectFile) (entries environment : List (List ℕ)) (tests : List RawTest) (justified : List RawJustified)
     → shape_fault document ≡ None
+    → format ≡ format_of document
     → components ≡ map name_of (items_in (get (codes "component") document))
     → files ≡ files_from 0 (items_in (get (codes "component") document))
     → entries ≡ texts_in (get (codes "entries") document)
     → environment ≡ texts_in (get (codes "environment") document)
     → tests ≡ map test_of (items_in (get (codes "test") document))
-    → IsWellMade (record { components = components; files = files; entries = entries; environment = environment; tests = tests })
-copied_well document components files entries environment tests none a b c d e = rw (a, b, c, d, e) (well_made document none)
+    → justified ≡ map justified_of (items_in (rule.justified_in document))
+    → IsWellMade (record { format = format; components = components; files = files; entries = entries; environment = environment; tests = tests; justified = justified })
+copied_well document format components files entries environment tests justified none o a b c d e f = rw (o, a, b, c, d, e, f) (well_made document none)

@@ -51,6 +51,15 @@ is_file_name [] = false
 is_file_name (b ∷ z) =
     not (b == 47) && (list_all in_file_name (b ∷ z) && (nat_le (length (b ∷ z)) 200 && not (has_part_up true (b ∷ z))))
 
+-- a letter, a digit, space, `_`, `-`, `.`, `:` or `/`
+abbrev pub in_reason : ℕ → Bool
+in_reason b = in_file_name b || (b == 32 || b == 58)
+
+-- a reason: 1 to 200 bytes of letters, digits, space, `_`, `-`, `.`, `:` and `/`, beginning with a letter
+abbrev pub is_reason : List ℕ → Bool
+is_reason [] = false
+is_reason (b ∷ z) = is_letter b && (list_all in_reason (b ∷ z) && nat_le (length (b ∷ z)) 200)
+
 -- an identifier of C that is no keyword
 abbrev pub is_function_name : List ℕ → Bool
 is_function_name text = is_identifier text && not (is_keyword text)

@@ -6,6 +6,7 @@ use Rattle.cc_project.specs.Values.{text_in, items_in, texts_in, is_integer}
 use Rattle.cc_project.specs.Rules.{is_format, is_component_array, is_component_name, is_new_component_name, is_file_array, is_file, is_new_file, has_only_component_keys}
 use Rattle.cc_project.specs.Rules.{is_entry_array, is_entry, is_environment_array, is_environment, is_test_array, is_test_name, is_turns, is_call_array, is_call}
 use Rattle.cc_project.specs.Rules.{is_answer_array, is_requirement_array, is_requirement_text, has_only_test_keys, has_only_document_keys}
+use Rattle.cc_project.specs.Rules.{justified_in, is_justified_array, is_line, is_reason_value, has_only_justified_keys}
 
 -- a rule at one place of a document: the key text of the place, the number of the rule, and whether it holds there
 pub record Rule : Type 0 where
@@ -86,7 +87,30 @@ abbrev pub tests_rules : ℕ → List (List ℕ) → List Data → List Rule
 tests_rules i names [] = []
 tests_rules i names (test ∷ rest) = test_rules i names test then tests_rules (i + 1) (names ++ name_of test ∷ []) rest
 
--- all rules of a document, in order
+abbrev pub line_of : Data → List ℕ
+line_of justified = text_in (get (codes "line") justified)
+
+-- J16 to J18 for justification i; `lines` are those of the justifications before it
+unfoldable pub justification_rules : ℕ → List (List ℕ) → Data → List Rule
+justification_rules i lines justified =
+    let owner = item_key (codes "justified") i in
+    let line = get (codes "line") justified in
+    let reason = get (codes "reason") justified in
+    at (member_key owner (codes "line")) 16 (is_line lines line)
+    then at (member_key owner (codes "reason")) 17 (is_reason_value reason)
+    then at owner 18 (has_only_justified_keys justified)
+
+-- the rules of these justifications, the first of which is number i
+abbrev pub justifications_rules : ℕ → List (List ℕ) → List Data → List Rule
+justifications_rules i lines [] = []
+justifications_rules i lines (justified ∷ rest) =
+    justification_rules i lines justified then justifications_rules (i + 1) (lines ++ line_of justified ∷ []) rest
+
+-- J15, and then J16 to J18 for each justification
+abbrev pub justified_rules : Option Data → List Rule
+justified_rules value = at (codes "justified") 15 (is_justified_array value) then justifications_rules 0 [] (items_in value)
+
+-- all rules of a document, in order; in format 1 none of J15 to J18 fails, since nothing is justified there
 unfoldable pub rules_of : Data → List Rule
 rules_of document =
     let components = get (codes "component") document in
@@ -100,6 +124,7 @@ rules_of document =
     then new_array_rules (codes "environment") 9 (is_environment_array environment) (is_environment (texts_in entries)) environment
     then at (codes "test") 10 (is_test_array tests)
     then tests_rules 0 [] (items_in tests)
+    then justified_rules (justified_in document)
     then at (codes "top") 14 (has_only_document_keys document)
 
 -- the key text and the number of the first rule that fails

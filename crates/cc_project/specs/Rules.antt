@@ -1,18 +1,30 @@
--- The rules J1 to J14 of a project file, each as a test of a value of the document, in words of its own.
-use Rattle.std.specs.Prelude.{ℕ, pos, Bool, false, ◌&&◌, nat_le, nat_lt, int_le, length, List, [], ◌∷◌, Option, codes}
+-- The rules J1 to J18 of a project file, each as a test of a value of the document, in words of its own.
+use Rattle.std.specs.Prelude.{ℕ, pos, Bool, false, ◌&&◌, ◌||◌, if◌then◌else◌, nat_le, nat_lt, int_le, length, List, [], ◌∷◌, Option, None, codes}
 use Rattle.std.specs.List.{list_all}
 use Rattle.std.specs.Ordering.{int_eq}
-use Rattle.toml.specs.Data.{Data, integer, array}
-use Rattle.cc_project.specs.Names.{is_name, is_file_name, is_requirement, is_function_name, is_new}
+use Rattle.toml.specs.Data.{Data, integer, array, get}
+use Rattle.cc_project.specs.Names.{is_name, is_file_name, is_requirement, is_reason, is_function_name, is_new}
 use Rattle.cc_project.specs.Values.{is_any, is_text, is_integer, is_table, is_text_that, is_there, is_missing_or, is_array, has_only, list_of, text_in}
 
--- J1: the integer 1
-abbrev pub is_one : Data → Bool
-is_one (integer z) = int_eq z (pos 1)
-is_one _ = false
+-- J1: the integer 1 or 2
+abbrev pub is_format_number : Data → Bool
+is_format_number (integer z) = int_eq z (pos 1) || int_eq z (pos 2)
+is_format_number _ = false
 
 abbrev pub is_format : Option Data → Bool
-is_format = is_there is_one
+is_format = is_there is_format_number
+
+-- format 2
+abbrev pub is_two : Data → Bool
+is_two (integer z) = int_eq z (pos 2)
+is_two _ = false
+
+abbrev pub is_second : Data → Bool
+is_second document = is_there is_two (get (codes "format") document)
+
+-- the value at `justified`, of which format 1 knows nothing
+abbrev pub justified_in : Data → Option Data
+justified_in document = if is_second document then get (codes "justified") document else None
 
 -- J2: an array of 1 to 64 tables
 abbrev pub is_component_array : Option Data → Bool
@@ -94,9 +106,31 @@ is_requirement_array = is_missing_or (is_array 0 100 is_any)
 abbrev pub is_requirement_text : Data → Bool
 is_requirement_text = is_text_that is_requirement
 
--- J14: no other key, in a test and in the document
+-- J14: no other key, in a test and in the document, which has one more in format 2
 abbrev pub has_only_test_keys : Data → Bool
 has_only_test_keys = has_only (codes "name" ∷ codes "turns" ∷ codes "calls" ∷ codes "answers" ∷ codes "requirements" ∷ [])
 
+abbrev pub keys_behind : Bool → List (List ℕ)
+keys_behind second = if second then codes "justified" ∷ [] else []
+
+abbrev pub document_keys : Bool → List (List ℕ)
+document_keys second = codes "format" ∷ codes "component" ∷ codes "entries" ∷ codes "environment" ∷ codes "test" ∷ keys_behind second
+
 abbrev pub has_only_document_keys : Data → Bool
-has_only_document_keys = has_only (codes "format" ∷ codes "component" ∷ codes "entries" ∷ codes "environment" ∷ codes "test" ∷ [])
+has_only_document_keys document = has_only (document_keys (is_second document)) document
+
+-- J15: missing, or an array of at most 1,000 tables
+abbrev pub is_justified_array : Option Data → Bool
+is_justified_array = is_missing_or (is_array 0 1000 is_table)
+
+-- J16: a string that no earlier line equals; `before` are those lines
+abbrev pub is_line : List (List ℕ) → Option Data → Bool
+is_line before value = is_there is_text value && is_new before (text_in value)
+
+-- J17: a reason
+abbrev pub is_reason_value : Option Data → Bool
+is_reason_value = is_there (is_text_that is_reason)
+
+-- J18: no other key
+abbrev pub has_only_justified_keys : Data → Bool
+has_only_justified_keys = has_only (codes "line" ∷ codes "reason" ∷ [])

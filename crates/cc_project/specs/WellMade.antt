@@ -1,10 +1,11 @@
--- What every project keeps: the limits, and what the rules J2 to J13 ask of what is in it.
-use Rattle.std.specs.Prelude.{◌≡◌, ◌≢◌, ◌≤◌, ◌<◌, ℕ, List, map, length, IsTrue}
+-- What every project keeps: the limits, and what the rules J1 to J13 and J15 to J17 ask of what is in it.
+use Rattle.std.specs.Prelude.{◌≡◌, ◌≢◌, ◌≤◌, ◌<◌, ◌⊎◌, ℕ, List, [], map, length, IsTrue}
 use Rattle.std.specs.List.{All, AllPass, AllPairs, Any, Contains}
-use Rattle.cc_project.specs.Names.{is_name, is_file_name, is_requirement, is_function_name}
+use Rattle.cc_project.specs.Names.{is_name, is_file_name, is_requirement, is_reason, is_function_name}
 use Rattle.cc_project.specs.Project.{Project}
 use Rattle.cc_project.specs.declared.project.ProjectFile.{ProjectFile}
 use Rattle.cc_project.specs.declared.project.RawTest.{RawTest}
+use Rattle.cc_project.specs.declared.project.RawJustified.{RawJustified}
 
 -- no text stands there twice
 abbrev pub AllDiffer : List (List ℕ) → Type 0
@@ -20,6 +21,12 @@ AreInOrder = AllPairs (λ a b. a.component.0 ≤ b.component.0)
 abbrev pub test_names_of : List RawTest → List (List ℕ)
 test_names_of = map (λ test. test.name)
 
+abbrev pub lines_of : List RawJustified → List (List ℕ)
+lines_of = map (λ justified. justified.line)
+
+abbrev pub reasons_of : List RawJustified → List (List ℕ)
+reasons_of = map (λ justified. justified.reason)
+
 -- what J11 to J13 ask of a test alone
 pub record IsWellMadeTest (test : RawTest) : Type 0 where
   pub name : IsTrue (is_name test.name)
@@ -32,6 +39,8 @@ pub record IsWellMadeTest (test : RawTest) : Type 0 where
   pub requirements : AllPass is_requirement test.requirements
 
 pub record IsWellMade (project : Project) : Type 0 where
+  -- J1
+  pub format : (project.format ≡ 1) ⊎ (project.format ≡ 2)
   -- J2, J3, J4
   pub some_component : 1 ≤ length project.components
   pub few_components : length project.components ≤ 64
@@ -59,3 +68,8 @@ pub record IsWellMade (project : Project) : Type 0 where
   pub few_tests : length project.tests ≤ 1000
   pub tests : All IsWellMadeTest project.tests
   pub tests_differ : AllDiffer (test_names_of project.tests)
+  -- J14 in format 1, and J15 to J17
+  pub first_has_none : project.format ≡ 1 → project.justified ≡ []
+  pub few_justified : length project.justified ≤ 1000
+  pub lines_differ : AllDiffer (lines_of project.justified)
+  pub reasons : AllPass is_reason (reasons_of project.justified)

@@ -2,16 +2,16 @@
 ghost use Rattle.std.specs.Prelude.{◌≡◌, ◌≤◌, ◌+◌, ◌++◌, None, IfOk, OnOk, map, length};
 ghost use Rattle.toml.specs.View.{view};
 ghost use Rattle.cc_project.specs.Order.{name_of, shape_fault};
-ghost use Rattle.cc_project.specs.Project.{call_in, call_of, test_of, turns_in, files_in, files_from, project_of};
+ghost use Rattle.cc_project.specs.Project.{call_in, call_of, test_of, turns_in, files_in, files_from, format_of, justified_of, project_of};
 ghost use Rattle.cc_project.specs.Values as spec;
 ghost use Rattle.cc_project.specs.Views.{data_in, all_data, texts_of};
 
 use crate::limit::MOST_TURNS;
 use crate::project::{
-    NumberList, Project, ProjectFile, ProjectFileList, RawCall, RawCallList, RawTest, RawTestList,
-    TextList,
+    NumberList, Project, ProjectFile, ProjectFileList, RawCall, RawCallList, RawJustified,
+    RawJustifiedList, RawTest, RawTestList, TextList,
 };
-use crate::value::{at_key, items_in, items_of, text_in, text_of};
+use crate::value::{at_key, is_second, items_in, items_of, justified_in, text_in, text_of};
 use cc_base::{CompId, List, Memory, Text};
 use std::alloc::Global;
 use toml::Value;
@@ -136,6 +136,33 @@ fn tests(alloc: Global, items: &[Value]) -> Result<RawTestList, Memory>
     Ok(list)
 }
 
+// The justified row that a table says.
+fn justified(alloc: Global, value: &Value) -> Result<RawJustified, Memory>
+    ensures { IfOk result (λ justified. justified ≡ justified_of (view value.now)) }
+{
+    let line = copy(alloc, text_in(at_key(value, "line")))?;
+    let reason = copy(alloc, text_in(at_key(value, "reason")))?;
+    Ok(RawJustified { line, reason })
+}
+
+// The justified rows that these tables say.
+fn justifications(alloc: Global, items: &[Value]) -> Result<RawJustifiedList, Memory>
+    ensures { IfOk result (λ list. list ≡ map justified_of (all_data items.now)) }
+{
+    let mut list = List::new(alloc);
+    for item in items {
+        list.push(justified(alloc, item)?)?;
+    }
+    Ok(list)
+}
+
+// The format of a document that has one.
+fn format_of(document: &Value) -> u32
+    ensures { result ≡ format_of (view document.now) }
+{
+    if is_second(document) { 2 } else { 1 }
+}
+
 // The names of components.
 fn names(alloc: Global, items: &[Value]) -> Result<TextList, Memory>
     ensures { IfOk result (λ list. list ≡ map name_of (all_data items.now)) }
@@ -190,11 +217,14 @@ pub fn project(alloc: Global, document: &Value) -> Result<Project, Memory>
     let entries = texts(alloc, items_in(at_key(document, "entries")))?;
     let environment = texts(alloc, items_in(at_key(document, "environment")))?;
     let tests = tests(alloc, items_in(at_key(document, "test")))?;
+    let justified = justifications(alloc, items_in(justified_in(document)))?;
     Ok(Project {
+        format: format_of(document),
         components,
         files,
         entries,
         environment,
         tests,
+        justified,
     })
 }

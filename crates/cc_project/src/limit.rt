@@ -27,8 +27,14 @@ pub const MOST_ANSWERS: usize = 100_000;
 /// The most requirements of a test.
 pub const MOST_REQUIREMENTS: usize = 100;
 
+/// The most justified rows.
+pub const MOST_JUSTIFIED: usize = 1000;
+
 /// The most bytes of a name or a requirement.
 pub const MOST_NAME_BYTES: usize = 64;
 
 /// The most bytes of a file name.
 pub const MOST_FILE_NAME_BYTES: usize = 200;
+
+/// The most bytes of a reason.
+pub const MOST_REASON_BYTES: usize = 200;

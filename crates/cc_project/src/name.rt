@@ -1,10 +1,10 @@
-// Names, file names, requirements and C identifiers.
+// Names, file names, requirements, reasons and C identifiers.
 ghost use Rattle.std.specs.Prelude.{◌≡◌, true};
 ghost use Rattle.std.specs.List.{list_all};
 ghost use Rattle.cc_lex.specs.Bytes as lex;
 ghost use Rattle.cc_project.specs.Names as spec;
 
-use crate::limit::{MOST_FILE_NAME_BYTES, MOST_NAME_BYTES};
+use crate::limit::{MOST_FILE_NAME_BYTES, MOST_NAME_BYTES, MOST_REASON_BYTES};
 
 // A letter, a digit, `_` or `-`.
 fn in_name(byte: u8) -> bool
@@ -25,6 +25,12 @@ fn in_file_name(byte: u8) -> bool
     in_requirement(byte) || byte == b'/'
 }
 
+fn in_reason(byte: u8) -> bool
+    ensures { result ≡ spec.in_reason byte }
+{
+    in_file_name(byte) || byte == b' ' || byte == b':'
+}
+
 fn are_in_name(text: &[u8]) -> bool
     ensures { result ≡ list_all spec.in_name text.now }
 {
@@ -41,6 +47,12 @@ fn are_in_file_name(text: &[u8]) -> bool
     ensures { result ≡ list_all spec.in_file_name text.now }
 {
     text.iter().all(|byte| in_file_name(*byte))
+}
+
+fn are_in_reason(text: &[u8]) -> bool
+    ensures { result ≡ list_all spec.in_reason text.now }
+{
+    text.iter().all(|byte| in_reason(*byte))
 }
 
 /// Whether the text is 1 to 64 bytes of letters, digits, `_` and `-`, beginning with a letter.
@@ -79,6 +91,19 @@ pub fn is_file_name(text: &[u8]) -> bool
                 && are_in_file_name(text)
                 && text.len() <= MOST_FILE_NAME_BYTES
                 && !has_part_up(text)
+        }
+        None => false,
+    }
+}
+
+/// Whether the text is 1 to 200 bytes of letters, digits, space, `_`, `-`, `.`, `:` and `/`, beginning with a letter.
+#[tactic(auto, using(crate::proofs::NameParts::reason_parts))]
+pub fn is_reason(text: &[u8]) -> bool
+    ensures { result ≡ spec.is_reason text.now }
+{
+    match text.first() {
+        Some(first) => {
+            first.is_ascii_alphabetic() && are_in_reason(text) && text.len() <= MOST_REASON_BYTES
         }
         None => false,
     }

@@ -12,7 +12,7 @@ use toml::Value;
 ///
 /// # Errors
 ///
-/// `NotToml` where the bytes are no UTF-8 or TOML refuses them; `Shape` at the first of the rules J1 to J14 that the
+/// `NotToml` where the bytes are no UTF-8 or TOML refuses them; `Shape` at the first of the rules J1 to J18 that the
 /// document breaks, in the order of `docs/project-file.md`; `Memory` where memory is wanting.
 pub fn read_project(alloc: Global, bytes: &[u8]) -> Result<Project, ProjectFault>
     ensures ok { IfOk result (IsProject bytes.now) }

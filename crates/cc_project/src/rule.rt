@@ -1,4 +1,4 @@
-// The numbers of the rules J1 to J14 of docs/project-file.md.
+// The numbers of the rules J1 to J18 of docs/project-file.md.
 
 /// J1: the format.
 pub const FORMAT: u8 = 1;
@@ -41,3 +41,15 @@ pub const TEST_LISTS: u8 = 13;
 
 /// J14: a test has no other key, nor has the document.
 pub const OTHER_KEYS: u8 = 14;
+
+/// J15: the array of justified rows.
+pub const JUSTIFIED: u8 = 15;
+
+/// J16: the line of a justified row, which no earlier one has.
+pub const LINE: u8 = 16;
+
+/// J17: the reason of a justified row.
+pub const REASON: u8 = 17;
+
+/// J18: a justified row has no other key.
+pub const JUSTIFIED_KEYS: u8 = 18;

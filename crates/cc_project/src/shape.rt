@@ -3,7 +3,7 @@ ghost use Rattle.std.specs.Prelude.{◌≡◌, ◌++◌, ◌∷◌, [], None, On
 ghost use Rattle.toml.specs.Data.{get};
 ghost use Rattle.toml.specs.View.{view};
 ghost use Rattle.cc_project.specs.Keys.{field_text};
-ghost use Rattle.cc_project.specs.Order.{array_rules, new_array_rules, at_each, at_each_new, component_rules, components_rules, test_rules, tests_rules, first_failing, shape_fault, name_of, files_of};
+ghost use Rattle.cc_project.specs.Order.{array_rules, new_array_rules, at_each, at_each_new, component_rules, components_rules, test_rules, tests_rules, justification_rules, justifications_rules, justified_rules, first_failing, shape_fault, name_of, files_of, line_of};
 ghost use Rattle.cc_project.specs.Names as names;
 ghost use Rattle.cc_project.specs.Outcome.{Reports};
 ghost use Rattle.cc_project.specs.Rules as rule;
@@ -12,18 +12,19 @@ ghost use Rattle.cc_project.specs.Views.{data_in, all_data, test_of};
 
 use crate::fault::{Field, ProjectFault, demand_at, demand_of, member, top};
 use crate::limit::{
-    MOST_ANSWERS, MOST_CALLS, MOST_COMPONENTS, MOST_FILES, MOST_FUNCTIONS, MOST_REQUIREMENTS,
-    MOST_TESTS,
+    MOST_ANSWERS, MOST_CALLS, MOST_COMPONENTS, MOST_FILES, MOST_FUNCTIONS, MOST_JUSTIFIED,
+    MOST_REQUIREMENTS, MOST_TESTS,
 };
 use crate::name::is_function_name;
 use crate::rule::{
-    COMPONENT_KEYS, COMPONENT_NAME, COMPONENTS, ENTRIES, ENVIRONMENT, FILES, FORMAT, NEW_COMPONENT,
-    NEW_FILE, OTHER_KEYS, TEST_LISTS, TEST_NAME, TESTS, TURNS,
+    COMPONENT_KEYS, COMPONENT_NAME, COMPONENTS, ENTRIES, ENVIRONMENT, FILES, FORMAT, JUSTIFIED,
+    JUSTIFIED_KEYS, LINE, NEW_COMPONENT, NEW_FILE, OTHER_KEYS, REASON, TEST_LISTS, TEST_NAME,
+    TESTS, TURNS,
 };
 use crate::seen::Seen;
 use crate::value::{
-    Kind, at_key, fits, has_array, has_only, is_format, is_name_value, is_turns, items_in,
-    may_have_array, text_in, text_of,
+    Kind, at_key, fits, has_array, has_only, has_only_document_keys, is_format, is_name_value,
+    is_reason_value, is_string, is_turns, items_in, justified_in, may_have_array, text_in, text_of,
 };
 use std::alloc::Global;
 use toml::Value;
@@ -51,6 +52,12 @@ fn is_test_name(value: Option<&Value>, is_new: bool) -> bool
     ensures { result ≡ (rule.is_component_name (data_in value.entry) && is_new) }
 {
     is_name_value(value) && is_new
+}
+
+fn is_line(value: Option<&Value>, is_new: bool) -> bool
+    ensures { result ≡ (spec.is_there spec.is_text (data_in value.entry) && is_new) }
+{
+    is_string(value) && is_new
 }
 
 // Each item is of this kind.
@@ -303,6 +310,62 @@ fn check_tests<'a>(alloc: Global, tests: &'a [Value]) -> Result<(), ProjectFault
     Ok(())
 }
 
+// J16 to J18 for justification `i`, behind justifications with these lines.
+fn check_justification<'a>(
+    alloc: Global,
+    i: usize,
+    justified: &'a Value,
+    lines: &mut Seen<'a>,
+) -> Result<(), ProjectFault>
+    ensures ok { OnOk result (first_failing (justification_rules i lines.old (view justified.now)) ≡ None) }
+    ensures err { IfErr result (Reports (first_failing (justification_rules i lines.old (view justified.now)))) }
+    ensures lines { OnOk result (lines.new ≡ lines.old ++ line_of (view justified.now) ∷ []) }
+{
+    let line = at_key(justified, "line");
+    let is_new = lines.add(text_in(line))?;
+    demand_of(
+        alloc,
+        member("justified", i, "line"),
+        LINE,
+        is_line(line, is_new),
+    )?;
+    demand_of(
+        alloc,
+        member("justified", i, "reason"),
+        REASON,
+        is_reason_value(at_key(justified, "reason")),
+    )?;
+    let is_all = has_only(justified, &["line", "reason"]);
+    demand_at(alloc, top("justified"), i, JUSTIFIED_KEYS, is_all)?;
+    Ok(())
+}
+
+fn check_justifications<'a>(alloc: Global, items: &'a [Value]) -> Result<(), ProjectFault>
+    ensures ok { OnOk result (first_failing (justifications_rules 0 [] (all_data items.now)) ≡ None) }
+    ensures err { IfErr result (Reports (first_failing (justifications_rules 0 [] (all_data items.now)))) }
+{
+    let mut lines = Seen::new(alloc);
+    for i in 0..items.len() {
+        let justified = &items[i];
+        check_justification(alloc, i, justified, &mut lines)?;
+    }
+    Ok(())
+}
+
+fn check_justified_array(alloc: Global, value: Option<&Value>) -> Result<(), ProjectFault>
+    ensures ok { OnOk result (first_failing (justified_rules (data_in value.entry)) ≡ None) }
+    ensures err { IfErr result (Reports (first_failing (justified_rules (data_in value.entry)))) }
+{
+    demand_of(
+        alloc,
+        top("justified"),
+        JUSTIFIED,
+        may_have_array(MOST_JUSTIFIED, Kind::Table, value),
+    )?;
+    check_justifications(alloc, items_in(value))?;
+    Ok(())
+}
+
 /// `Ok` where the document breaks no rule, and else the first that it breaks.
 pub fn check(alloc: Global, document: &Value) -> Result<(), ProjectFault>
     ensures ok { OnOk result (shape_fault (view document.now) ≡ None) }
@@ -333,10 +396,12 @@ pub fn check(alloc: Global, document: &Value) -> Result<(), ProjectFault>
         may_have_array(MOST_TESTS, Kind::Table, tests),
     )?;
     check_tests(alloc, items_in(tests))?;
-    let is_all = has_only(
-        document,
-        &["format", "component", "entries", "environment", "test"],
-    );
-    demand_of(alloc, top("top"), OTHER_KEYS, is_all)?;
+    check_justified_array(alloc, justified_in(document))?;
+    demand_of(
+        alloc,
+        top("top"),
+        OTHER_KEYS,
+        has_only_document_keys(document),
+    )?;
     Ok(())
 }

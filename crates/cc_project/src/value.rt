@@ -9,7 +9,7 @@ ghost use Rattle.cc_project.specs.Rules as rule;
 ghost use Rattle.cc_project.specs.Views.{data_in, all_data, test_of};
 
 use crate::limit::{MOST_ARGUMENTS, MOST_TURNS};
-use crate::name::{is_file_name, is_name, is_requirement};
+use crate::name::{is_file_name, is_name, is_reason, is_requirement};
 use toml::{Table, Value};
 
 /// What is asked of each item of an array.
@@ -158,14 +158,30 @@ pub fn may_have_array(most: usize, kind: Kind, value: Option<&Value>) -> bool
     }
 }
 
-/// Whether the value is the integer 1.
+/// Whether the value is the integer 1 or 2.
 pub fn is_format(value: Option<&Value>) -> bool
     ensures { result ≡ rule.is_format (data_in value.entry) }
 {
     match value {
-        Some(Value::Integer(number)) => *number == 1,
+        Some(Value::Integer(number)) => *number == 1 || *number == 2,
         _ => false,
     }
+}
+
+fn is_two(value: Option<&Value>) -> bool
+    ensures { result ≡ spec.is_there rule.is_two (data_in value.entry) }
+{
+    match value {
+        Some(Value::Integer(number)) => *number == 2,
+        _ => false,
+    }
+}
+
+/// Whether the document is of format 2.
+pub fn is_second(document: &Value) -> bool
+    ensures { result ≡ rule.is_second (view document.now) }
+{
+    is_two(at_key(document, "format"))
 }
 
 /// Whether the value is a name.
@@ -184,6 +200,26 @@ pub fn is_turns(value: Option<&Value>) -> bool
 {
     match value {
         Some(Value::Integer(number)) => 1 <= *number && *number <= MOST_TURNS,
+        _ => false,
+    }
+}
+
+/// Whether the value is a string.
+pub fn is_string(value: Option<&Value>) -> bool
+    ensures { result ≡ spec.is_there spec.is_text (data_in value.entry) }
+{
+    match value {
+        Some(value) => is_text(value),
+        None => false,
+    }
+}
+
+/// Whether the value is a reason.
+pub fn is_reason_value(value: Option<&Value>) -> bool
+    ensures { result ≡ rule.is_reason_value (data_in value.entry) }
+{
+    match value {
+        Some(Value::String(text)) => is_reason(text.as_str().as_bytes()),
         _ => false,
     }
 }
@@ -223,6 +259,30 @@ pub fn has_only(value: &Value, keys: &[&str]) -> bool
     }
 }
 
+/// Whether the document has no key but those of its format.
+pub fn has_only_document_keys(document: &Value) -> bool
+    ensures { result ≡ rule.has_only_document_keys (view document.now) }
+{
+    if is_second(document) {
+        has_only(
+            document,
+            &[
+                "format",
+                "component",
+                "entries",
+                "environment",
+                "test",
+                "justified",
+            ],
+        )
+    } else {
+        has_only(
+            document,
+            &["format", "component", "entries", "environment", "test"],
+        )
+    }
+}
+
 // ---- Parts
 
 /// The value at this key of a table.
@@ -230,6 +290,17 @@ pub fn at_key<'a>(value: &'a Value, key: &str) -> Option<&'a Value>
     ensures { data_in result ≡ get key.now (view value.now) }
 {
     value.get(key)
+}
+
+/// The value at `justified` of a document of format 2.
+pub fn justified_in(document: &Value) -> Option<&Value>
+    ensures { data_in result ≡ rule.justified_in (view document.now) }
+{
+    if is_second(document) {
+        at_key(document, "justified")
+    } else {
+        None
+    }
 }
 
 /// The string, or the empty text.

@@ -1,6 +1,6 @@
 // The rules of `docs/project-file.md` by examples, worked out by hand.
 
-use cc_project::{Project, ProjectFault, RawCall, RawTest, TextList, read_project};
+use cc_project::{Project, ProjectFault, RawCall, RawJustified, RawTest, TextList, read_project};
 use std::alloc::Global;
 use std::test::Fail;
 
@@ -269,6 +269,77 @@ const ANSWERS: [(&str, &str, &str); 13] = [
     ("format = 1", "format = 1\nextra = 1", "J14 top"),
 ];
 
+/// Format 2: J15 to J18, and J14 of the document. What stands behind the format is a key of the document.
+const JUSTIFIED: [(&str, &str, &str); 15] = [
+    (
+        "format = 1",
+        "format = 2",
+        "2 | A B | a.c=A b.c=B | f | | T1 1000 f()",
+    ),
+    (
+        "format = 1",
+        "format = 2\njustified = []",
+        "2 | A B | a.c=A b.c=B | f | | T1 1000 f()",
+    ),
+    (
+        "format = 1",
+        "format = 2\njustified = [{ line = \"\", reason = \"a-Z_9 .:/\" }, { reason = \"b\", line = \"x,y\" }]",
+        "2 | A B | a.c=A b.c=B | f | | T1 1000 f() |  ! a-Z_9 .:/ | x,y ! b",
+    ),
+    ("format = 1", "format = 1\njustified = []", "J14 top"),
+    ("format = 1", "format = 2\nextra = 1", "J14 top"),
+    (
+        "format = 1",
+        "format = 2\njustified = { line = \"x\", reason = \"r\" }",
+        "J15 justified",
+    ),
+    (
+        "format = 1",
+        "format = 2\nextra = 1\njustified = [{ line = 1 }, 1]",
+        "J15 justified",
+    ),
+    (
+        "format = 1",
+        "format = 2\njustified = [{ reason = \"r\" }]",
+        "J16 justified[0].line",
+    ),
+    (
+        "format = 1",
+        "format = 2\njustified = [{ line = 1, reason = \"r\" }]",
+        "J16 justified[0].line",
+    ),
+    (
+        "format = 1",
+        "format = 2\njustified = [{ line = \"x\", reason = \"r\" }, { line = \"x\", reason = \"s\" }]",
+        "J16 justified[1].line",
+    ),
+    (
+        "format = 1",
+        "format = 2\njustified = [{ line = \"x\" }]",
+        "J17 justified[0].reason",
+    ),
+    (
+        "format = 1",
+        "format = 2\njustified = [{ line = \"x\", reason = \"\" }]",
+        "J17 justified[0].reason",
+    ),
+    (
+        "format = 1",
+        "format = 2\njustified = [{ line = \"x\", reason = \"9 of 10\" }]",
+        "J17 justified[0].reason",
+    ),
+    (
+        "format = 1",
+        "format = 2\njustified = [{ line = \"x\", reason = \"a, b\", test = 1 }]",
+        "J17 justified[0].reason",
+    ),
+    (
+        "format = 1",
+        "format = 2\njustified = [{ line = \"x\", reason = \"r\", test = 1 }, { line = 1 }]",
+        "J18 justified[0]",
+    ),
+];
+
 /// Two faults: the first by the order of the rules.
 const FIRST_OF_TWO: [(&str, &str, &str); 12] = [
     ("format = 1\nentries", "entry", "J1 format"),
@@ -401,8 +472,22 @@ const ALIKE: [&[u8]; 10] = [
 // Each row of these tables is a text of `BASE`, what stands in its place, a text that stands so many times at its `@`,
 // with its number at `%`, and what the reading gives.
 
-/// The most files, entries, functions of the environment, components and tests, and one more.
-const MOST: [(&str, &str, &str, usize, &str); 13] = [
+/// The most files, entries, functions of the environment, components, tests and justified rows, and one more.
+const MOST: [(&str, &str, &str, usize, &str); 15] = [
+    (
+        "format = 1",
+        "format = 2\njustified = [@]",
+        "{ line = \"%\", reason = \"r\" }, ",
+        1000,
+        "ok",
+    ),
+    (
+        "format = 1",
+        "format = 2\njustified = [@]",
+        "{ line = \"%\", reason = \"r\" }, ",
+        1001,
+        "J15 justified",
+    ),
     ("\"a.c\"", "@", "\"a%.c\", ", 63, "ok"),
     ("\"a.c\"", "@", "\"a%.c\", ", 64, "J6 component[1].files[0]"),
     ("\"a.c\"", "@", "\"a%.c\", ", 65, "J5 component[0].files"),
@@ -461,7 +546,21 @@ const MOST: [(&str, &str, &str, usize, &str); 13] = [
 ];
 
 /// The most arguments, calls, answers and bytes of a text, and one more.
-const LONGEST: [(&str, &str, &str, usize, &str); 14] = [
+const LONGEST: [(&str, &str, &str, usize, &str); 16] = [
+    (
+        "format = 1",
+        "format = 2\njustified = [{ line = \"x\", reason = \"@\" }]",
+        "x",
+        200,
+        "ok",
+    ),
+    (
+        "format = 1",
+        "format = 2\njustified = [{ line = \"x\", reason = \"@\" }]",
+        "x",
+        201,
+        "J17 justified[0].reason",
+    ),
     ("[\"f\"]]", "[\"f\", @]]", "%, ", 32, "ok"),
     ("[\"f\"]]", "[\"f\", @]]", "%, ", 33, "J13 test[0].calls[0]"),
     ("[[\"f\"]]", "[@]", "[\"f%\"], ", 10000, "ok"),
@@ -548,9 +647,26 @@ fn push_files(alloc: Global, shown: &mut String, project: &Project) -> Result<()
     Ok(())
 }
 
-/// Components, files, entries, environment and tests, behind bars.
+/// Adds a justified row: its line, and its reason behind `!`.
+fn push_justified(alloc: Global, shown: &mut String, row: &RawJustified) -> Result<(), Fail> {
+    shown.push_str(format!(in alloc; " | {} ! {}", row.line, row.reason)?.as_str())?;
+    Ok(())
+}
+
+/// The format where it isn't 1.
+fn shown_format(alloc: Global, project: &Project) -> Result<String, Fail> {
+    let shown = if project.format == 1 {
+        String::new(alloc)
+    } else {
+        format!(in alloc; "{} ", project.format)?
+    };
+    Ok(shown)
+}
+
+/// Components, files, entries, environment, tests and justified rows, behind bars.
 fn shown_project(alloc: Global, project: &Project) -> Result<String, Fail> {
-    let mut shown = String::from_str(alloc, "|")?;
+    let mut shown = shown_format(alloc, project)?;
+    shown.push_str("|")?;
     push_texts(&mut shown, &project.components)?;
     shown.push_str(" |")?;
     push_files(alloc, &mut shown, project)?;
@@ -560,6 +676,9 @@ fn shown_project(alloc: Global, project: &Project) -> Result<String, Fail> {
     push_texts(&mut shown, &project.environment)?;
     for i in 0..project.tests.len() {
         push_test(alloc, &mut shown, project.tests.get(i))?;
+    }
+    for i in 0..project.justified.len() {
+        push_justified(alloc, &mut shown, project.justified.get(i))?;
     }
     Ok(shown)
 }
@@ -677,6 +796,7 @@ fn parts_of_tests(rt: HostRuntime) -> Result<(), Fail> {
     assert!(rt; changes_hold(alloc, &CALLS)?);
     assert!(rt; changes_hold(alloc, &ANSWERS)?);
     assert!(rt; changes_hold(alloc, &FIRST_OF_TWO)?);
+    assert!(rt; changes_hold(alloc, &JUSTIFIED)?);
     Ok(())
 }
 
