@@ -1,17 +1,16 @@
 -- Names that are marked.
-use Rattle.std.proofs.Common.{◌≡◌, ℕ, zero, suc, ◌+◌, ◌-◌, ◌<◌, ◌≤◌, List, [], ◌∷◌, ◌++◌, length, ◌⊎◌, inl, inr, ⊎_elim, Option, Some, None, Bool, true, false, refl, sym, ap, ◌∙◌, subst, arith, cond, take, get_or}
-use Rattle.std.specs.Prelude.{slice_get, slice_set, Contains, nat_eq, ◌&&◌}
+use Rattle.std.proofs.Common.{◌≡◌, ℕ, zero, suc, ◌+◌, ◌-◌, ◌<◌, ◌≤◌, List, [], ◌∷◌, ◌++◌, length, ⊎_elim, Option, Some, None, Bool, true, false, refl, sym, ap, ◌∙◌, subst, arith, cond, take, get_or}
+use Rattle.std.specs.Prelude.{slice_get, Contains, nat_eq}
 use Rattle.std.proofs.lemmas.Bool.{cases_lt}
 use Rattle.std.proofs.lemmas.List.{take_more}
 use Rattle.std.proofs.lemmas.List.Elements.{Contains-push_cases}
 use Rattle.std.proofs.lemmas.Option.{slice_get_within, get_or_from_slice_get}
 use Rattle.cc_program.specs.declared.program.Program.{Program}
-use Rattle.cc_arena.specs.declared.arena.Placed.{Placed}
 use Rattle.cc_arena.specs.Arenas.{node_of}
 use Rattle.cc_roles.specs.Calls.{arguments, arguments_of}
 use Rattle.cc_roles.specs.Names.{named, returned, returned_by}
 use Rattle.cc_record_laws.specs.Watching.{Asks}
-use Rattle.cc_record.specs.Asked.{or_true, is_asked, Grows, IsMarked, AreMarked, MarkedTo}
+use Rattle.cc_record.specs.Asked.{is_asked, Grows, IsMarked, AreMarked, MarkedTo}
 use Rattle.cc_record.specs.Roles.{roles_of, numbered}
 
 pub grows_on : (a b c : List Bool) → Grows a b → Grows b c → Grows a c

@@ -1,9 +1,8 @@
 -- How an activation is entered.
-use Rattle.std.proofs.Common.{◌≡◌, ℕ, zero, suc, ◌-◌, List, [], ◌∷◌, ◌++◌, length, Option, Some, None, Bool, true, false, refl, sym, ap, ◌∙◌, arith, cond, reverse, map, take, length-append}
+use Rattle.std.proofs.Common.{◌≡◌, ℕ, zero, suc, ◌-◌, List, [], ◌∷◌, ◌++◌, length, Option, Some, None, Bool, true, false, refl, sym, ap, ◌∙◌, arith, cond, reverse, map}
 use Rattle.std.specs.Prelude.{nat_eq, slice_get, ◌&&◌}
-use Rattle.std.proofs.lemmas.List.{reverse-append, reverse-reverse}
+use Rattle.std.proofs.lemmas.List.{reverse-append}
 use Rattle.cc_program.specs.declared.function.FuncId.{FuncId}
-use Rattle.cc_meaning.specs.declared.event.Event.{Event}
 use Rattle.cc_meaning.specs.declared.event.Event.TheVariants.{Enter}
 use Rattle.cc_record_laws.specs.declared.kept.Entry.{Entry}
 use Rattle.cc_record_laws.specs.Kept as kept
@@ -70,17 +69,3 @@ module _ (old mid new : Activations) (act : ℕ) (entry : Option Entry) (list : 
 
   pub read_at : (b u : ℕ) → (answers_of new).read b u ≡ (answers_of old).read b u
   read_at b u = turned.read b u ∙ same.read b u
-
--- ---- an activation that is taken off again
-
-front : (xs : List ℕ) (a : ℕ) → take (length (xs ++ a ∷ []) - 1) (xs ++ a ∷ []) ≡ xs
-front [] a = refl
-front (x ∷ xs) a =
-    let e : length (x ∷ (xs ++ a ∷ [])) - 1 ≡ suc (length (xs ++ a ∷ []) - 1) = omega (arith, length-append xs (a ∷ [])) in
-    ap (λ k. take k (x ∷ (xs ++ a ∷ []))) e ∙ ap (λ r. x ∷ r) (front xs a)
-
--- what was entered last is taken off
-pub popped : (old mid : List ℕ) (act : ℕ) → reverse mid ≡ act ∷ reverse old → take (length mid - 1) mid ≡ old
-popped old mid act h =
-    let e : mid ≡ old ++ act ∷ [] = sym (reverse-reverse mid) ∙ (ap reverse (h ∙ sym (reverse-append old (act ∷ []))) ∙ reverse-reverse (old ++ act ∷ [])) in
-    ap (λ m. take (length m - 1) m) e ∙ front old act

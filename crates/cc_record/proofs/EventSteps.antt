@@ -1,11 +1,10 @@
 -- What each event does to the tables is what the law says.
-use Rattle.std.proofs.Common.{◌≡◌, ◌≢◌, ℕ, ◌<◌, ◌-◌, List, [], ◌∷◌, ◌++◌, ◌⊎◌, inl, inr, ⊎_elim, Option, Some, None, Bool, true, false, refl, sym, ap, ◌∙◌, subst, arith, cond, reverse, eq-eqb, Result, Ok, Err, OnOk}
-use Rattle.std.specs.Prelude.{nat_eq, slice_get, ◌&&◌, ◌↔◌, Contains}
-use Rattle.std.proofs.lemmas.Bool.{cases_eq, ne_eqb}
+use Rattle.std.proofs.Common.{◌≡◌, ◌≢◌, ℕ, ◌<◌, List, ◌⊎◌, inl, inr, ⊎_elim, Option, Some, None, Bool, true, false, refl, sym, ap, ◌∙◌, cond, Result, Ok, Err, OnOk}
+use Rattle.std.specs.Prelude.{nat_eq, ◌↔◌, Contains}
 use Rattle.cc_program.specs.declared.function.FuncId.{FuncId}
 use Rattle.cc_meaning.specs.declared.event.Cell.{Cell}
 use Rattle.cc_meaning.specs.declared.event.Event.{Event}
-use Rattle.cc_meaning.specs.declared.event.Event.TheVariants.{Enter, Pass, Def, Use, Leave, Gone, Ask}
+use Rattle.cc_meaning.specs.declared.event.Event.TheVariants.{Enter, Use, Leave, Ask}
 use Rattle.cc_meaning.specs.declared.coupling.Coupling.{Coupling}
 use Rattle.cc_meaning.specs.declared.coupling.Coupling.TheVariants.{Call, Shared, Parameter, Return}
 use Rattle.cc_record_laws.specs.declared.kept.Entry.{Entry}
@@ -13,15 +12,14 @@ use Rattle.cc_record_laws.specs.declared.kept.Passed.{Passed}
 use Rattle.cc_record_laws.specs.Roles.{Roles}
 use Rattle.cc_record_laws.specs.Past.{same_cell}
 use Rattle.cc_record_laws.specs.Gives.{apart, param, returns}
-use Rattle.cc_record_laws.specs.Kept.{Kept, GivesNow, shared_now, param_at, param_now, return_now, named_by, without}
-use Rattle.cc_record_laws.specs.Watching.{IsSame, Steps}
-use Rattle.cc_record_laws.proofs.Exact.{same_is, eqb_is}
+use Rattle.cc_record_laws.specs.Kept.{Kept, GivesNow, shared_now, param_at, param_now, return_now, named_by}
+use Rattle.cc_record_laws.proofs.Exact.{same_is}
 use Rattle.cc_record_tables.specs.declared.slot.Slot.{Slot}
 use Rattle.cc_record_tables.specs.declared.slot.Since.{Since}
 use Rattle.cc_record_tables.specs.declared.slot.Since.TheVariants as since
-use Rattle.cc_record_tables.specs.Slots.{defined, passed, read_by, due_in, fresh_in, fresh_since, due_since}
+use Rattle.cc_record_tables.specs.Slots.{due_in, fresh_in, fresh_since, due_since}
 use Rattle.cc_record.specs.Recording.{due, wrote, fresh}
-use Rattle.cc_record.specs.Steps.{Adds, after_read, call, read, read_fresh, parameter}
+use Rattle.cc_record.specs.Steps.{Adds, after_read, call, read, read_fresh}
 use Rattle.cc_record.proofs.SlotLaws.{due_cond, wrote_cond, fresh_cond, due_read, fresh_read}
 
 -- the cells of a state

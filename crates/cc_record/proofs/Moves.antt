@@ -1,26 +1,21 @@
 -- What a recorder's methods do is what the law says.
-use Rattle.std.proofs.Common.{◌≡◌, ◌≢◌, ℕ, ◌<◌, ◌-◌, List, [], ◌∷◌, ◌++◌, ◌⊎◌, inl, inr, ⊎_elim, Option, Some, None, Bool, true, false, refl, sym, ap, ◌∙◌, subst, arith, cond, reverse, map, eq-eqb, Result, Ok, Err, OnOk}
-use Rattle.std.specs.Prelude.{nat_eq, slice_get, ◌&&◌, ◌↔◌, Contains, OnErr}
-use Rattle.std.proofs.lemmas.Bool.{cases_eq, ne_eqb}
+use Rattle.std.proofs.Common.{◌≡◌, ℕ, List, [], ◌∷◌, ◌++◌, inl, ⊎_elim, Option, Some, None, Bool, true, false, refl, sym, ap, ◌∙◌, subst, cond, reverse, Result, Ok, Err, OnOk}
+use Rattle.std.specs.Prelude.{nat_eq, ◌&&◌, ◌↔◌, Contains, OnErr}
 use Rattle.cc_program.specs.declared.function.FuncId.{FuncId}
 use Rattle.cc_program.specs.declared.program.Program.{Program}
 use Rattle.cc_meaning.specs.declared.event.Cell.{Cell}
 use Rattle.cc_meaning.specs.declared.event.Event.{Event}
-use Rattle.cc_meaning.specs.declared.event.Event.TheVariants.{Enter, Pass, Def, Use, Leave, Gone, Ask}
+use Rattle.cc_meaning.specs.declared.event.Event.TheVariants.{Enter, Use, Leave, Ask}
 use Rattle.cc_meaning.specs.declared.coupling.Coupling.{Coupling}
 use Rattle.cc_record_laws.specs.declared.kept.Entry.{Entry}
-use Rattle.cc_record_laws.specs.declared.kept.Passed.{Passed}
-use Rattle.cc_record_laws.specs.Roles.{Roles}
 use Rattle.cc_record_laws.specs.Past.{same_cell}
-use Rattle.cc_record_laws.specs.Kept.{Kept, start, without, entry_of, passing_by, return_now, named_by}
-use Rattle.cc_record_laws.specs.Dropping.{RecordedFrom}
+use Rattle.cc_record_laws.specs.Kept.{without, entry_of, passing_by}
 use Rattle.cc_record_laws.specs.Exercised.{Exercised}
 use Rattle.cc_record_laws.specs.Orderly.{IsOrderly}
-use Rattle.cc_record_laws.specs.Watching.{Asks, IsSame, StandsFor, Steps, Distinct, Watching}
-use Rattle.cc_record_laws.proofs.Steps.{watches, both_same}
-use Rattle.cc_record_laws.proofs.Exact.{eqb_is}
+use Rattle.cc_record_laws.specs.Watching.{Asks, StandsFor, Distinct}
+use Rattle.cc_record_laws.proofs.Steps.{watches}
 use Rattle.cc_record_tables.specs.declared.slot.Slot.{Slot}
-use Rattle.cc_record_tables.specs.Slots.{defined, passed, read_by, due_in, fresh_in}
+use Rattle.cc_record_tables.specs.Slots.{read_by}
 use Rattle.cc_record_tables.specs.CellTable.{slot_of, has_place}
 use Rattle.cc_record_tables.specs.declared.cells.Cells.{Cells}
 use Rattle.cc_record_tables.specs.declared.activations.Activations.{Activations}
@@ -30,8 +25,8 @@ use Rattle.cc_record_tables.specs.ActivationTable as table
 use Rattle.cc_record_tables.specs.ActivationTable.{answers_of, SameAnswers}
 use Rattle.cc_record.specs.declared.recorder.Recorder.{Recorder}
 use Rattle.cc_record.specs.Asked.{is_asked, Reads}
-use Rattle.cc_record.specs.Roles.{roles_of, numbered}
-use Rattle.cc_record.specs.Recording.{kept_of, program_of, roles, AreFew, Stands, Keeps, Does, Stays, due, wrote, fresh, entry_by, left, passing}
+use Rattle.cc_record.specs.Roles.{roles_of}
+use Rattle.cc_record.specs.Recording.{kept_of, program_of, roles, AreFew, Stands, Keeps, Does, due, wrote, fresh, entry_by, left, passing}
 use Rattle.cc_record.specs.Steps as gives
 use Rattle.cc_record.specs.Steps.{Adds, after_read}
 use Rattle.cc_record.proofs.Enters.{passed_by, with_place, entry_at, passing_at, read_at}
@@ -138,16 +133,29 @@ seen_is P r told s few orderly q =
     subst (λ (p : Program). Contains (seen_in r.seen) q ↔ Exercised (roles_of p) told q) s.program
     (watches.has (roles r) (is_asked r.asked.items) (kept_of r) (seen_in r.seen) told (s.stands few' orderly) orderly q)
 
--- the same of a recorder's own program
-pub told_now : (old new : Recorder) (e e' : Event) → e' ≡ e → Does old new e → (told : List Event) → Stands (program_of old) old told → Stands (program_of new) new (told ++ e' ∷ [])
-told_now old new e e' is d told s =
-    subst (λ (e : Event). Stands (program_of new) new (told ++ e ∷ [])) (sym is)
-    (subst (λ (p : Program). Stands p new (told ++ e ∷ [])) (sym d.keeps.program) (stands_more (program_of old) old new e told d s))
+-- the event as the code has it
+pub told_now : (old new : Recorder) (e e' : Event) → e' ≡ e → Does old new e → (P : Program) (told : List Event) → Stands P old told → Stands P new (told ++ e' ∷ [])
+told_now old new e e' is d P told s = subst (λ (e : Event). Stands P new (told ++ e ∷ [])) (sym is) (stands_more P old new e told d s)
 
+-- the same where there was memory
 pub told_by : {A E : Type 0} (r : Result A E) (old new : Recorder) (e e' : Event) → e' ≡ e → OnOk r (Does old new e)
-    → OnOk r ((told : List Event) → Stands (program_of old) old told → Stands (program_of new) new (told ++ e' ∷ []))
+    → OnOk r ((P : Program) (told : List Event) → Stands P old told → Stands P new (told ++ e' ∷ []))
 told_by (Ok x) old new e e' is d = told_now old new e e' is d
 told_by (Err x) old new e e' is d = tt
+
+-- of its own program
+own : (P : Program) (r : Recorder) (told : List Event) → Stands P r told → Stands (program_of r) r told
+own P r told s = subst (λ (p : Program). Stands p r told) (sym s.program) s
+
+pub own_told : {A E : Type 0} (r : Result A E) (old new : Recorder) (e : Event) → OnOk r ((P : Program) (told : List Event) → Stands P old told → Stands P new (told ++ e ∷ []))
+    → OnOk r ((told : List Event) → Stands (program_of old) old told → Stands (program_of new) new (told ++ e ∷ []))
+own_told (Ok x) old new e h = λ told s. own (program_of old) new (told ++ e ∷ []) (h (program_of old) told s)
+own_told (Err x) old new e h = tt
+
+pub own_still : {A E : Type 0} (r : Result A E) (old new : Recorder) → OnErr r ((P : Program) (told : List Event) → Stands P old told → Stands P new told)
+    → OnErr r ((told : List Event) → Stands (program_of old) old told → Stands (program_of new) new told)
+own_still (Ok x) old new h = tt
+own_still (Err x) old new h = λ told s. own (program_of old) new told (h (program_of old) told s)
 
 -- nothing changes where the environment is asked
 pub asked_does : (r : Recorder) (s : ℕ) (g : FuncId) (a : ℕ) → Does r r (Ask s g a)

@@ -1,15 +1,13 @@
 -- What the tables answer after a cell is written, passed, read or ended.
-use Rattle.std.proofs.Common.{◌≡◌, ◌≢◌, ℕ, ◌<◌, ◌*◌, ◌^◌, ◌%◌, ◌⊎◌, inl, inr, w64, eq-eqb, Option, Some, None, Bool, true, false, refl, sym, ap, ◌∙◌, arith, cond}
+use Rattle.std.proofs.Common.{◌≡◌, ◌≢◌, ℕ, ◌<◌, ◌*◌, ◌^◌, ◌%◌, ◌⊎◌, inl, inr, w64, eq-eqb, Option, None, Bool, true, false, refl, sym, ap, ◌∙◌, arith, cond}
 use Rattle.std.specs.Prelude.{nat_eq, nat_lt, bit_or}
 use Rattle.std.specs.Int.{bit_at}
 use Rattle.std.proofs.lemmas.Bool.{cases_eq, ne_eqb, lt-ltb}
-use Rattle.std.proofs.lemmas.Nat.Bits.{bit_at-zero, bit_at_set_same, bit_at_set_other}
-use Rattle.cc_meaning.specs.declared.event.Cell.{Cell}
-use Rattle.cc_record_laws.specs.declared.kept.Passed.{Passed}
+use Rattle.std.proofs.lemmas.Nat.Bits.{bit_at_set_same, bit_at_set_other}
 use Rattle.cc_record_tables.specs.declared.slot.Slot.{Slot}
 use Rattle.cc_record_tables.specs.declared.slot.Since.{Since}
 use Rattle.cc_record_tables.specs.declared.slot.Since.TheVariants as since
-use Rattle.cc_record_tables.specs.Slots.{defined, passed, read_by, since_read, has_reader, with_reader, due_in, due_since, fresh_in, fresh_since}
+use Rattle.cc_record_tables.specs.Slots.{read_by, since_read, has_reader, with_reader, due_in, due_since, fresh_in, fresh_since}
 use Rattle.cc_record.specs.Recording.{due, wrote, fresh}
 
 module _ (b : Bool) (s t : Option Slot) where

@@ -1,5 +1,5 @@
 -- What a recorder stands for.
-use Rattle.std.specs.Prelude.{◌≡◌, ◌<◌, ◌-◌, ℕ, List, [], Option, Some, None, map, reverse, length, slice_get}
+use Rattle.std.specs.Prelude.{◌≡◌, ◌<◌, ℕ, List, [], Option, Some, None, map, reverse}
 use Rattle.cc_program.specs.declared.function.FuncId.{FuncId}
 use Rattle.cc_program.specs.declared.program.Program.{Program}
 use Rattle.cc_meaning.specs.declared.coupling.Coupling.{Coupling}

@@ -1,7 +1,6 @@
 // The coupling that an event gives.
 ghost use Rattle.std.specs.Prelude.{◌≡◌};
-ghost use Rattle.cc_record_laws.specs.Gives.{of_enter, apart, param};
-ghost use Rattle.cc_record_laws.specs.Kept.{shared_now, param_now, return_now};
+ghost use Rattle.cc_record_laws.specs.Kept.{shared_now, return_now};
 ghost use Rattle.cc_record.specs.Roles.{roles_of};
 ghost use Rattle.cc_record.specs.Steps as spec;
 

@@ -1,5 +1,5 @@
 // What watches a run and keeps what it exercises.
-ghost use Rattle.std.specs.Prelude.{◌≡◌, ◌↔◌, ◌⊎◌, ◌∷◌, ◌++◌, [], List, Contains, IfOk, IsTrue, OnOk, OnErr, cond, map, reverse};
+ghost use Rattle.std.specs.Prelude.{◌≡◌, ◌↔◌, ◌∷◌, ◌++◌, [], List, Contains, IfOk, OnOk, OnErr, cond, map, reverse};
 ghost use Rattle.cc_meaning.specs.declared.event.Event.{Event};
 ghost use Rattle.cc_meaning.specs.declared.event.Event.TheVariants as event;
 ghost use Rattle.cc_meaning.specs.declared.coupling.Coupling.{Coupling};
@@ -71,6 +71,27 @@ impl<'p> Recorder<'p> {
         self.activations = Activations::new(self.alloc);
         self.opened.clear();
         self.seen.clear();
+    }
+
+    /// Takes one event more. Where the recorder stood for a list of events of a program, it then stands for that list and the
+    /// event, and still for that list after an error.
+    pub fn take(&mut self, event: &Event) -> Result<(), Memory>
+        ensures told { OnOk result ((p : Program) (told : List Event) → Stands p self.old told
+            → Stands p self.new (told ++ event.now ∷ [])) }
+        ensures err { OnErr result ((p : Program) (told : List Event) → Stands p self.old told → Stands p self.new told) }
+    {
+        match *event {
+            Event::Enter { site, callee, act } => self.enter(site, callee, act),
+            Event::Pass { site, k, cell, act } => self.pass(site, k, cell, act),
+            Event::Def { occ, cell, act } => self.define(occ, cell, act),
+            Event::Use { occ, cell, act } => self.read(occ, cell, act),
+            Event::Leave { ret, act } => self.leave(ret, act),
+            Event::Gone { instance } => {
+                self.gone(instance);
+                Ok(())
+            }
+            Event::Ask { .. } => Ok(()),
+        }
     }
 
     // The definition of an argument, by what the activation on top has read.
@@ -274,17 +295,6 @@ impl Watch for Recorder<'_> {
     ghost stands_for = { λ s told. Stands (program_of s) s told };
 
     fn event(&mut self, event: &Event) -> Result<(), Memory> {
-        match *event {
-            Event::Enter { site, callee, act } => self.enter(site, callee, act),
-            Event::Pass { site, k, cell, act } => self.pass(site, k, cell, act),
-            Event::Def { occ, cell, act } => self.define(occ, cell, act),
-            Event::Use { occ, cell, act } => self.read(occ, cell, act),
-            Event::Leave { ret, act } => self.leave(ret, act),
-            Event::Gone { instance } => {
-                self.gone(instance);
-                Ok(())
-            }
-            Event::Ask { .. } => Ok(()),
-        }
+        self.take(event)
     }
 }

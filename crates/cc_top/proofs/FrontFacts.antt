@@ -39,7 +39,9 @@ input_kind (why.Entry name rule) h = λ e. absurd (omega (arith, e))
 input_kind (why.Environment name rule) h = λ e. absurd (omega (arith, e))
 input_kind (why.Test test call rule) h = λ e. absurd (omega (arith, e))
 input_kind why.TooManyNodes h = λ e. absurd (omega (arith, e))
-input_kind why.Internal h = λ e. absurd (omega (arith, e))
+input_kind (why.NoSuchRow told index) h = λ e. absurd (omega (arith, e))
+input_kind (why.Covered told index row test) h = λ e. absurd (omega (arith, e))
+input_kind (why.Internal what) h = λ e. absurd (omega (arith, e))
 input_kind why.Memory h = λ e. absurd (omega (arith, e))
 
 pub input_caused : (old new : Counts) (r : Refusal) → IsOfInput r → Caused old new r
@@ -57,7 +59,9 @@ input_caused old new (why.Entry name rule) h = (λ x. absurd x, λ x. absurd x, 
 input_caused old new (why.Environment name rule) h = (λ x. absurd x, λ x. absurd x, λ x. absurd x)
 input_caused old new (why.Test test call rule) h = (λ x. absurd x, λ x. absurd x, λ x. absurd x)
 input_caused old new why.TooManyNodes h = (λ x. absurd x, λ x. absurd x, λ x. absurd x)
-input_caused old new why.Internal h = (λ x. absurd x, λ x. absurd x, λ x. absurd x)
+input_caused old new (why.NoSuchRow told index) h = (λ x. absurd x, λ x. absurd x, λ x. absurd x)
+input_caused old new (why.Covered told index row test) h = (λ x. absurd x, λ x. absurd x, λ x. absurd x)
+input_caused old new (why.Internal what) h = (λ x. absurd x, λ x. absurd x, λ x. absurd x)
 input_caused old new why.Memory h = (λ x. absurd x, λ x. absurd x, λ x. absurd x)
 
 -- ---- The refusal that a fault of the expansion is

@@ -1,6 +1,7 @@
 pub mod CheckFacts
 pub mod FrontFacts
 pub mod EndFacts
+pub mod GeneratedFacts
 pub mod ListFacts
 pub mod Reached
 pub mod Sound

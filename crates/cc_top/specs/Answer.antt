@@ -1,5 +1,5 @@
 -- What the call answers for its words and the files of its shelf.
-use Rattle.std.specs.Prelude.{◌≡◌, ◌⊎◌, ◌<◌, ◌≤◌, ◌++◌, ℕ, List, [], ◌∷◌, length, codes, MatchOption}
+use Rattle.std.specs.Prelude.{◌≡◌, ◌⊎◌, ◌<◌, ◌≤◌, ◌++◌, ℕ, List, [], ◌∷◌, length, codes, Bool, true, false, MatchOption, Option}
 use Rattle.std.specs.Fmt.{decimal}
 use Rattle.std.specs.FinMap.{get}
 use Rattle.cc_io.specs.Shelf.{Files}
@@ -8,16 +8,25 @@ use Rattle.cc_first.specs.Listing.{IsListing}
 use Rattle.cc_first.specs.Unit.{program_of}
 use Rattle.cc_first_list.specs.First.{IsFirst}
 use Rattle.cc_first_list.specs.Points.{points, most_points}
+use Rattle.cc_gen.specs.Generated.{generated}
 use Rattle.cc_listing.specs.Answers.{IsTable}
+use Rattle.cc_meaning.specs.declared.score.Justified.{Justified}
+use Rattle.cc_meaning.specs.declared.test.Test.{Test}
 use Rattle.cc_program.specs.declared.program.Program.{Program}
 use Rattle.cc_project.specs.Project.{Project}
 use Rattle.cc_project.specs.Outcome.{IsFault, IsProject}
 use Rattle.cc_project.specs.WellMade.{file_names_of}
 use Rattle.cc_project.specs.declared.fault.ProjectFault.TheVariants.{NotToml, Shape}
-use Rattle.cc_top.specs.Words.{IsNoCommand, words_of}
+use Rattle.cc_reports.specs.Reports.{IsReport}
+use Rattle.cc_reports.specs.declared.kinds.Report.{Report}
+use Rattle.cc_reports.specs.declared.kinds.Report.TheVariants.{Score, Tests, Pairs, Summary}
+use Rattle.cc_top.specs.Words.{IsCount, IsNoCommand, gen_words, words_of}
 use Rattle.cc_top.specs.declared.words.Task.{Task}
 use Rattle.cc_top.specs.declared.words.Task.TheVariants as task
-use Rattle.cc_top.specs.Refusal.{usage_line, missing_line, long_line, points_line, not_toml_line, shape_line}
+use Rattle.cc_top.specs.declared.work.Work.{Work}
+use Rattle.cc_top.specs.declared.work.Work.TheVariants as work
+use Rattle.cc_top.specs.declared.refusal.Internal.TheVariants.{Generated}
+use Rattle.cc_top.specs.Refusal.{usage_line, missing_line, long_line, points_line, not_toml_line, shape_line, internal_line}
 
 -- what is added to out and to err, and the status
 pub record Reply : Type 0 where
@@ -30,6 +39,15 @@ refused line status = record { out = []; err = line; status = status }
 
 abbrev pub done : List ℕ → Reply
 done text = record { out = text; err = []; status = 0 }
+
+-- the status of a text by whether each criterion that it judges is met
+abbrev pub status_when : (is_met : Bool) → ℕ
+status_when true = 0
+status_when false = 1
+
+-- a text with its status
+abbrev pub made : (text : List ℕ) (is_met : Bool) → Reply
+made text is_met = record { out = text; err = []; status = status_when is_met }
 
 -- the file is not held, or too long, or its bytes lead on
 abbrev pub AfterRead : Files → List ℕ → (List ℕ → Reply → Type 0) → Reply → Type 0
@@ -72,20 +90,56 @@ OfListed bytes project contents reply =
     ((f : IsFirst bytes (file_names_of project.files) contents) × OfFirst bytes (file_names_of project.files) contents f reply)
     ⊎ ((IsFirst bytes (file_names_of project.files) contents → ⊥) × OfWhole reply)
 
--- what is asked of files that are read, where these are the bytes of the project file
-abbrev pub OfFiles : Task → List ℕ → Project → List (List ℕ) → Reply → Type 0
-OfFiles task.List bytes project contents reply = OfListed bytes project contents reply
-OfFiles task.Check bytes project contents reply = OfChecked project contents reply
+-- whether a report's status is by its criteria: `score` and the summary judge them
+abbrev pub judged : Report → (is_met : Bool) → Bool
+judged Score is_met = is_met
+judged Tests is_met = true
+judged Pairs is_met = true
+judged (Summary n) is_met = is_met
+
+-- The text is the report on a program, with some tests and justifications, or a line says why there is none. That the program
+-- and the tests are those of the files, and which line it is, no definition says yet.
+abbrev pub OfReport : Report → Reply → Type 0
+OfReport what reply =
+    ((P : Program) × (tests : List Test) × (justified : Option (List Justified)) × (text : List ℕ) × (is_met : Bool)
+    × IsReport what P tests justified text is_met × (reply ≡ made text (judged what is_met)))
+    ⊎ ((line : List ℕ) × (reply ≡ refused line 3))
+
+-- what is done over files that are read, where these are the bytes of the project file
+abbrev pub OfFiles : Work → List ℕ → Project → List (List ℕ) → Reply → Type 0
+OfFiles work.List bytes project contents reply = OfListed bytes project contents reply
+OfFiles work.Check bytes project contents reply = OfChecked project contents reply
+OfFiles (work.Report what) bytes project contents reply = OfReport what reply
 
 -- the bytes are no document, or one that breaks a rule, or a project, whose files are read in their order
-abbrev pub OfBytes : Task → Files → List ℕ → List ℕ → Reply → Type 0
-OfBytes t files name bytes reply =
+abbrev pub OfBytes : Work → Files → List ℕ → List ℕ → Reply → Type 0
+OfBytes w files name bytes reply =
     (IsFault bytes NotToml × (reply ≡ refused (not_toml_line name) 3))
     ⊎ ((key : List ℕ) × (rule : ℕ) × IsFault bytes (Shape key rule) × (reply ≡ refused (shape_line name key rule) 3))
-    ⊎ ((project : Project) × IsProject bytes project × AfterFiles files (file_names_of project.files) (OfFiles t bytes project) reply)
+    ⊎ ((project : Project) × IsProject bytes project × AfterFiles files (file_names_of project.files) (OfFiles w bytes project) reply)
+
+-- what is done for a task
+abbrev pub work_of : Task → Work
+work_of task.List = work.List
+work_of task.Check = work.Check
+work_of task.Score = work.Report Score
+work_of task.Tests = work.Report Tests
+work_of task.Pairs = work.Report Pairs
+
+-- the name of a generated project
+abbrev pub generated_name : List ℕ
+generated_name = codes "p.toml"
+
+-- The summary of the generated project of n components, over its own files; or a file of it can't be read. That this can't come
+-- isn't proved.
+abbrev pub OfGenerated : ℕ → Reply → Type 0
+OfGenerated n reply =
+    AfterRead (generated n) generated_name (OfBytes (work.Report (Summary n)) (generated n) generated_name) reply
+    ⊎ (reply ≡ refused (internal_line Generated) 3)
 
 -- the answer to the words over the files
 abbrev pub IsAnswer : List (List ℕ) → Files → Reply → Type 0
 IsAnswer words files reply =
     (IsNoCommand words × (reply ≡ refused usage_line 2))
-    ⊎ ((t : Task) × (name : List ℕ) × (words ≡ words_of t name) × AfterRead files name (OfBytes t files name) reply)
+    ⊎ ((t : Task) × (name : List ℕ) × (words ≡ words_of t name) × AfterRead files name (OfBytes (work_of t) files name) reply)
+    ⊎ ((n : ℕ) × IsCount n × (words ≡ gen_words n) × OfGenerated n reply)

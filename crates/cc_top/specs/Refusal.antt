@@ -15,8 +15,10 @@ use Rattle.cc_top.specs.Holds.{Holds}
 use Rattle.cc_project.specs.declared.fault.ProjectFault.{ProjectFault}
 use Rattle.cc_project.specs.declared.fault.ProjectFault.TheVariants as why
 use Rattle.cc_top.specs.declared.refusal.At.{At}
+use Rattle.cc_top.specs.declared.refusal.Internal.{Internal as Inner}
+use Rattle.cc_top.specs.declared.refusal.Internal.TheVariants as inner
 use Rattle.cc_top.specs.declared.refusal.Refusal.{Refusal}
-use Rattle.cc_top.specs.declared.refusal.Refusal.TheVariants.{Usage, ReadFault, Missing, TooLong, NotToml, Shape, Entry, Environment, Test, TooManyNodes, TooManyPoints, TooManyFacts, TooManyRows, Internal, Memory}
+use Rattle.cc_top.specs.declared.refusal.Refusal.TheVariants.{Usage, ReadFault, Missing, TooLong, NotToml, Shape, Entry, Environment, Test, TooManyNodes, TooManyPoints, TooManyFacts, TooManyRows, NoSuchRow, Covered, Internal, Memory}
 use Rattle.cc_top.specs.declared.refusal.Refusal.TheVariants as refusal
 
 abbrev pub usage_line : List ℕ
@@ -65,6 +67,24 @@ environment_line name rule = codes "environment " ++ (name ++ (codes ": link K" 
 abbrev pub test_line : (test : List ℕ) (call rule : ℕ) → List ℕ
 test_line test call rule = codes "test " ++ (test ++ (codes " call " ++ (decimal (call + 1) ++ (codes ": B" ++ (decimal rule ++ codes "\n")))))
 
+-- a justification, by its number, whose line is that of no row
+abbrev pub no_row_line : (name : List ℕ) (index : ℕ) → List ℕ
+no_row_line name index = name ++ (codes ": Q1 justified[" ++ (decimal index ++ codes "]\n"))
+
+-- a justified row, which the line counts from 1, that a test exercises
+abbrev pub covered_line : (name : List ℕ) (index row : ℕ) (test : List ℕ) → List ℕ
+covered_line name index row test =
+    name ++ (codes ": Q2 justified[" ++ (decimal index ++ (codes "] row " ++ (decimal (row + 1) ++ (codes " " ++ (test ++ codes "\n"))))))
+
+-- what should not come
+abbrev pub internal_text : Inner → List ℕ
+internal_text inner.Number = codes "a number without a name"
+internal_text inner.Machine = codes "the machine is lost"
+internal_text inner.Generated = codes "a generated file can't be read"
+
+abbrev pub internal_line : Inner → List ℕ
+internal_line what = codes "internal: " ++ (internal_text what ++ codes "\n")
+
 -- the line that stands on err
 abbrev pub line_of : Refusal → List ℕ
 line_of Usage = usage_line
@@ -81,7 +101,9 @@ line_of TooManyNodes = codes "too many nodes\n"
 line_of (TooManyPoints count) = points_line count
 line_of TooManyFacts = codes "too many facts\n"
 line_of TooManyRows = codes "too many rows\n"
-line_of Internal = codes "internal: a number without a name\n"
+line_of (NoSuchRow name index) = no_row_line name index
+line_of (Covered name index row test) = covered_line name index row test
+line_of (Internal what) = internal_line what
 line_of Memory = memory_line
 
 abbrev pub status_of : Refusal → ℕ
@@ -123,6 +145,13 @@ IsOfInput (ReadFault name) = ⊥
 IsOfInput (Missing name) = ⊥
 IsOfInput (TooLong name) = ⊥
 IsOfInput _ = Unit {0}
+
+-- what is a refusal over files that nobody handed over: where one can't be read, that should not come
+abbrev pub of_generated : Refusal → Refusal
+of_generated (ReadFault name) = Internal inner.Generated
+of_generated (Missing name) = Internal inner.Generated
+of_generated (TooLong name) = Internal inner.Generated
+of_generated refused = refused
 
 -- something is wrong at a place of a file
 abbrev pub refusal_at : List ℕ → Spot → Fault → Refusal

@@ -3,11 +3,14 @@ ghost use Rattle.std.specs.Prelude.{◌≡◌, IfErr, IfOk};
 ghost use Rattle.cc_top.specs.Refusal.{IsOfFront, IsOfInput, RefusesProject, refusal_at, refusal_of};
 
 use crate::reading::text_of;
-use crate::refusal::{At, Refusal};
+use crate::refusal::{At, Internal, Refusal};
 use cc_base::{Spot, Text};
 use cc_front::{Fault, FrontFault, Names, PrepFault};
 use cc_listing::ListFault;
+use cc_meaning::TestList;
 use cc_project::{Project, ProjectFault};
+use cc_reports::ReportFault;
+use cc_score::Conflict;
 use std::alloc::Global;
 
 /// Why the bytes of a file of this name are no project.
@@ -31,7 +34,7 @@ fn copy_at(alloc: Global, texts: &[Text], number: u32) -> Result<Text, Refusal>
 {
     match texts.get(number as usize) {
         Some(text) => Ok(text_of(alloc, text.as_str())?),
-        None => Err(Refusal::Internal),
+        None => Err(Refusal::Internal(Internal::Number)),
     }
 }
 
@@ -41,7 +44,7 @@ fn file_name(alloc: Global, project: &Project, file: u32) -> Result<Text, Refusa
 {
     match project.files.as_slice().get(file as usize) {
         Some(file) => Ok(text_of(alloc, file.name.as_str())?),
-        None => Err(Refusal::Internal),
+        None => Err(Refusal::Internal(Internal::Number)),
     }
 }
 
@@ -51,7 +54,7 @@ fn test_name(alloc: Global, project: &Project, test: u32) -> Result<Text, Refusa
 {
     match project.tests.as_slice().get(test as usize) {
         Some(test) => Ok(text_of(alloc, test.name.as_str())?),
-        None => Err(Refusal::Internal),
+        None => Err(Refusal::Internal(Internal::Number)),
     }
 }
 
@@ -138,7 +141,66 @@ pub fn of_listing(fault: ListFault) -> Refusal
         ListFault::TooManyPoints { count } => Refusal::TooManyPoints(count),
         ListFault::TooManyFacts => Refusal::TooManyFacts,
         ListFault::TooManyRows => Refusal::TooManyRows,
-        ListFault::Internal => Refusal::Internal,
+        ListFault::Internal => Refusal::Internal(Internal::Number),
         ListFault::Memory => Refusal::Memory,
+    }
+}
+
+// The refusal for a justification whose line is that of no row.
+fn no_such_row(alloc: Global, name: &str, index: u32) -> Result<Refusal, Refusal>
+    ensures ok { IfOk result IsOfInput }
+    ensures err { IfErr result IsOfInput }
+{
+    let name = text_of(alloc, name)?;
+    Ok(Refusal::NoSuchRow { name, index })
+}
+
+// The refusal for a justified row that a test exercises.
+fn covered(
+    alloc: Global,
+    name: &str,
+    tests: &TestList,
+    conflict: Conflict,
+) -> Result<Refusal, Refusal>
+    ensures ok { IfOk result IsOfInput }
+    ensures err { IfErr result IsOfInput }
+{
+    match tests.as_slice().get(conflict.test as usize) {
+        Some(test) => Ok(Refusal::Covered {
+            name: text_of(alloc, name)?,
+            index: conflict.index,
+            row: conflict.row,
+            test: text_of(alloc, test.name.as_str())?,
+        }),
+        None => Err(Refusal::Internal(Internal::Number)),
+    }
+}
+
+// The refusal that a fault of the reports is; an `Err` is one too.
+fn of_report_fault(
+    alloc: Global,
+    name: &str,
+    tests: &TestList,
+    fault: ReportFault,
+) -> Result<Refusal, Refusal>
+    ensures ok { IfOk result IsOfInput }
+    ensures err { IfErr result IsOfInput }
+{
+    match fault {
+        ReportFault::List(fault) => Ok(of_listing(fault)),
+        ReportFault::NoSuchRow { index } => no_such_row(alloc, name, index),
+        ReportFault::Covered(conflict) => covered(alloc, name, tests, conflict),
+        ReportFault::Lost => Ok(Refusal::Internal(Internal::Machine)),
+        ReportFault::Memory => Ok(Refusal::Memory),
+    }
+}
+
+/// Why there is no report on a program with these tests, where the project file has this name.
+pub fn of_report(alloc: Global, name: &str, tests: &TestList, fault: ReportFault) -> Refusal
+    ensures { IsOfInput result }
+{
+    match of_report_fault(alloc, name, tests, fault) {
+        Ok(refusal) => refusal,
+        Err(refusal) => refusal,
     }
 }

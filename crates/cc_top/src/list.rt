@@ -12,6 +12,7 @@ ghost use Rattle.cc_top.specs.Tells.{Tells};
 ghost use Rattle.cc_top.specs.Tells as spec;
 
 use crate::faults::{of_front, of_listing};
+use crate::output::Output;
 use crate::refusal::Refusal;
 use cc_base::List;
 use cc_first_list::{Answer, first_answer};
@@ -50,7 +51,7 @@ fn whole_listed<S: Shelf>(
     shelf: &mut S,
     project: &Project,
     files: &List<ByteList>,
-) -> Result<Vec<u8>, Refusal>
+) -> Result<Output, Refusal>
     requires few { length files.now ≤ 64 }
     requires short { All IsShort files.now }
     ensures keeps { S.files shelf.new ≡ S.files shelf.old }
@@ -64,19 +65,19 @@ fn whole_listed<S: Shelf>(
         (FaultNames (IsIncludedIn held files.now))) }
 {
     match table(alloc, shelf, project, files) {
-        Ok(Ok(text)) => Ok(text),
+        Ok(Ok(text)) => Ok(Output::plain(text)),
         Ok(Err(fault)) => Err(of_listing(fault)),
         Err(fault) => Err(of_front(alloc, project, fault)),
     }
 }
 
 // What is answered for a project of the first form.
-fn answered(answer: Answer) -> Result<Vec<u8>, Refusal>
+fn answered(answer: Answer) -> Result<Output, Refusal>
     ensures is { result ≡ spec.answered answer }
     ensures input { IfErr result IsOfInput }
 {
     match answer {
-        Answer::Table(text) => Ok(text),
+        Answer::Table(text) => Ok(Output::plain(text)),
         Answer::TooManyPoints(count) => Err(Refusal::TooManyPoints(count)),
     }
 }
@@ -88,7 +89,7 @@ pub fn files_listed<S: Shelf>(
     bytes: &[u8],
     project: &Project,
     files: &List<ByteList>,
-) -> Result<Vec<u8>, Refusal>
+) -> Result<Output, Refusal>
     requires few { length files.now ≤ 64 }
     requires short { All IsShort files.now }
     ensures keeps { S.files shelf.new ≡ S.files shelf.old }

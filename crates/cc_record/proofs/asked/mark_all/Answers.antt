@@ -1,4 +1,4 @@
-use Rattle.std.proofs.Common.{◌<◌, ◌≤◌, List, length, get_or, subst, arith}
+use Rattle.std.proofs.Common.{◌≤◌, length, get_or, subst, arith}
 use Rattle.std.proofs.lemmas.List.{take_all}
 use Rattle.cc_roles.specs.Names.{named}
 use Rattle.cc_record.specs.Asked.{IsMarked, AreMarked}

@@ -1,0 +1,4 @@
+pub mod Firsts
+pub mod Runs
+pub mod Scored
+pub mod Watching

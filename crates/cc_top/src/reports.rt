@@ -1,0 +1,94 @@
+// The reports that `score`, `tests`, `pairs` and `gen` answer with.
+//
+// Each step that reads the shelf says what the module `steps` says.
+ghost use Rattle.std.specs.Prelude.{◌≡◌, ◌≢◌, ◌≤◌, All, IfErr, IfSome, length};
+ghost use Rattle.cc_top.specs.Answer.{OfReport};
+ghost use Rattle.cc_top.specs.Answer as spec;
+ghost use Rattle.cc_top.specs.Counts.{Caused, NoneFalls, counts_of};
+ghost use Rattle.cc_top.specs.Holds.{IsShort};
+ghost use Rattle.cc_top.specs.Reads.{IsIncludedIn};
+ghost use Rattle.cc_top.specs.Refusal.{FaultNames, IsOfInput, status_of};
+ghost use Rattle.cc_top.specs.Tells.{Tells};
+
+use crate::faults::{of_front, of_report};
+use crate::output::Output;
+use crate::refusal::Refusal;
+use cc_base::{List, Memory};
+use cc_front::{Built, front};
+use cc_io::{ByteList, Shelf};
+use cc_meaning::JustifiedList;
+use cc_project::Project;
+use cc_reports::{Report, report};
+use std::alloc::Global;
+
+// The justifications of a project; one of the first format has none.
+fn justifications(_alloc: Global, _project: &Project) -> Result<Option<JustifiedList>, Memory> {
+    Ok(None)
+}
+
+// Whether a report's criteria decide its status, and then whether they are met.
+fn judged(what: Report, is_met: bool) -> bool
+    ensures { result ≡ spec.judged what is_met }
+{
+    match what {
+        Report::Score | Report::Summary(_) => is_met,
+        Report::Tests | Report::Pairs => true,
+    }
+}
+
+// The report on a program with its tests, where the project file has this name.
+fn built_reported(
+    alloc: Global,
+    what: Report,
+    name: &str,
+    project: &Project,
+    built: &Built,
+) -> Result<Output, Refusal>
+    ensures told { Tells (OfReport what) result }
+    ensures input { IfErr result IsOfInput }
+{
+    let justified = match justifications(alloc, project) {
+        Ok(justified) => justified,
+        Err(_) => return Err(Refusal::Memory),
+    };
+    match report(
+        alloc,
+        what,
+        &built.program,
+        &built.tests,
+        justified.as_ref(),
+    ) {
+        Ok(reported) => Ok(Output {
+            text: reported.text,
+            is_met: judged(what, reported.is_met),
+        }),
+        Err(fault) => Err(of_report(alloc, name, &built.tests, fault)),
+    }
+}
+
+/// The report on the program of files that are read, where the project file has this name.
+pub fn files_reported<S: Shelf>(
+    alloc: Global,
+    shelf: &mut S,
+    what: Report,
+    name: &str,
+    project: &Project,
+    files: &List<ByteList>,
+) -> Result<Output, Refusal>
+    requires few { length files.now ≤ 64 }
+    requires short { All IsShort files.now }
+    ensures keeps { S.files shelf.new ≡ S.files shelf.old }
+    ensures none_falls { NoneFalls (counts_of (S.faults shelf.old) (S.misses shelf.old) (S.longs shelf.old))
+        (counts_of (S.faults shelf.new) (S.misses shelf.new) (S.longs shelf.new)) }
+    ensures told { Tells (OfReport what) result }
+    ensures caused { IfErr result (Caused (counts_of (S.faults shelf.old) (S.misses shelf.old) (S.longs shelf.old))
+        (counts_of (S.faults shelf.new) (S.misses shelf.new) (S.longs shelf.new))) }
+    ensures kind { IfErr result (λ refusal. status_of refusal ≢ 2) }
+    ensures names { IfSome (S.files shelf.old) (λ held. IfErr result
+        (FaultNames (IsIncludedIn held files.now))) }
+{
+    match front(alloc, shelf, project, files) {
+        Ok(built) => built_reported(alloc, what, name, project, &built),
+        Err(fault) => Err(of_front(alloc, project, fault)),
+    }
+}
