@@ -1,8 +1,13 @@
 // Counts as numbers of 32 bits.
+ghost use Rattle.std.specs.Prelude.{◌≡◌, IfOk};
+ghost use Rattle.cc_program.specs.Programs.{number_of};
+
 use cc_base::Memory;
 
 /// A count as a number; 2^32 - 1 stands for that many or more.
-pub(crate) fn narrowed(count: u64) -> u32 {
+pub(crate) fn narrowed(count: u64) -> u32
+    ensures { result ≡ number_of count }
+{
     if count < u32::MAX as u64 {
         count as u32
     } else {
@@ -11,7 +16,9 @@ pub(crate) fn narrowed(count: u64) -> u32 {
 }
 
 /// A count as a number. Fails where numbers are wanting.
-pub(crate) fn small(count: usize) -> Result<u32, Memory> {
+pub(crate) fn small(count: usize) -> Result<u32, Memory>
+    ensures { IfOk result (λ n. n ≡ count) }
+{
     if count > u32::MAX as usize {
         return Err(Memory);
     }

@@ -1,4 +1,7 @@
 // The numbers of names and of lasting objects.
+ghost use Rattle.std.specs.Prelude.{◌≡◌};
+ghost use Rattle.cc_layout.specs.Targets as spec;
+
 use cc_arena::Node;
 use cc_base::Memory;
 use cc_program::{Program, Referent, VarId};
@@ -158,7 +161,9 @@ pub fn declared_type(program: &Program, n: u32) -> Option<TypeId> {
 }
 
 /// Whether a string literal initialises an array, so that it is no object.
-pub fn fills_array(program: &Program, targets: &Slots<Option<TypeId>>, n: u32) -> bool {
+pub fn fills_array(program: &Program, targets: &Slots<Option<TypeId>>, n: u32) -> bool
+    ensures { result ≡ spec.fills_array program.now targets.now n }
+{
     match targets.get(n) {
         Some(Some(t)) => match program.types().shape(t) {
             Shape::Array(_, _, _) => true,
