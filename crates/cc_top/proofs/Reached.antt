@@ -86,7 +86,7 @@ task_at : ℕ → Task
 task_at a = cond (nat_eq a 108) task.List (cond (nat_eq a 99) task.Check (cond (nat_eq a 115) task.Score (cond (nat_eq a 116) task.Tests task.Pairs)))
 
 letter_tells : (t : Task) (name : List ℕ) → task_at (letter (words_of t name)) ≡ t
-unfolding (letter, task_at)
+unfolding letter task_at
 letter_tells task.List name = refl
 letter_tells task.Check name = refl
 letter_tells task.Score name = refl
