@@ -1,5 +1,5 @@
 -- What is told of a generated project.
-use Rattle.std.proofs.Common.{◌≡◌, ◌≢◌, ◌<◌, ℕ, Ok, Err, inl, inr, refl, arith}
+use Rattle.std.proofs.Common.{◌≢◌, ◌<◌, ℕ, Ok, Err, inl, inr, refl}
 use Rattle.cc_gen.specs.Generated.{generated}
 use Rattle.cc_reports.specs.declared.kinds.Report.TheVariants.{Summary}
 use Rattle.cc_top.proofs.Tells.{Outcome}

@@ -3,7 +3,7 @@ use Rattle.std.proofs.Common.{◌≡◌, ◌≢◌, ◌<◌, ◌≤◌, ◌⊎�
 use Rattle.std.proofs.lemmas.Bool.{cases_lt}
 use Rattle.std.specs.Fmt.{decimal}
 use Rattle.std.proofs.lemmas.Fmt.{decimal_digit, decimal_step}
-use Rattle.cc_top.specs.Words.{IsCommand, IsCommandOf, IsCount, IsNoCommand, IsNoCommandOf, two_words, words_of, gen_word, gen_words, word_of}
+use Rattle.cc_top.specs.Words.{IsCommand, IsCommandOf, IsCount, IsNoCommand, IsNoCommandOf, gen_word, two_words, word_of}
 use Rattle.cc_top.specs.declared.words.Command.{Command}
 use Rattle.cc_top.specs.declared.words.Command.TheVariants as command
 use Rattle.cc_top.specs.declared.words.Task.{Task}

@@ -78,9 +78,9 @@ pub fn files_checked<S: Shelf>(
         (FaultNames (IsIncludedIn held files.now))) }
 {
     match numbers(alloc, shelf, project, files) {
-        Ok((functions, objects)) => Ok(Output::plain(
-            counts(alloc, project, functions, objects)?.into_bytes(),
-        )),
+        Ok((functions, objects)) => Ok(Output::plain(counts(
+            alloc, project, functions, objects,
+        )?.into_bytes())),
         Err(fault) => Err(of_front(alloc, project, fault)),
     }
 }

@@ -38,15 +38,29 @@ pub enum Refusal {
     /// The project file is no TOML document.
     NotToml(Text),
     /// The project file breaks rule J`rule` at this key.
-    Shape { name: Text, key: Text, rule: u8 },
+    Shape {
+        name: Text,
+        key: Text,
+        rule: u8,
+    },
     /// A C file is refused at a place.
     At(At),
     /// The entry of this name breaks rule K`rule`.
-    Entry { name: Text, rule: u8 },
+    Entry {
+        name: Text,
+        rule: u8,
+    },
     /// The function of the environment of this name breaks rule K`rule`.
-    Environment { name: Text, rule: u8 },
+    Environment {
+        name: Text,
+        rule: u8,
+    },
     /// A call of this test, counted from 0, breaks rule B`rule`.
-    Test { test: Text, call: u32, rule: u8 },
+    Test {
+        test: Text,
+        call: u32,
+        rule: u8,
+    },
     /// The trees of the files have 2^30 nodes or more.
     TooManyNodes,
     /// The program has more control points than there may be: this many.
@@ -56,7 +70,10 @@ pub enum Refusal {
     /// The table would have more rows than there may be.
     TooManyRows,
     /// The justification of this number, counted from 0, has the line of no row.
-    NoSuchRow { name: Text, index: u32 },
+    NoSuchRow {
+        name: Text,
+        index: u32,
+    },
     /// A test of this name exercises the row of this number, counted from 0, that is justified.
     Covered {
         name: Text,

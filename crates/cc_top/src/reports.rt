@@ -12,18 +12,29 @@ ghost use Rattle.cc_top.specs.Tells.{Tells};
 
 use crate::faults::{of_front, of_report};
 use crate::output::Output;
+use crate::reading::text_of;
 use crate::refusal::Refusal;
 use cc_base::{List, Memory};
 use cc_front::{Built, front};
 use cc_io::{ByteList, Shelf};
-use cc_meaning::JustifiedList;
+use cc_meaning::{Justified, JustifiedList};
 use cc_project::Project;
 use cc_reports::{Report, report};
 use std::alloc::Global;
 
 // The justifications of a project; one of the first format has none.
-fn justifications(_alloc: Global, _project: &Project) -> Result<Option<JustifiedList>, Memory> {
-    Ok(None)
+fn justifications(alloc: Global, project: &Project) -> Result<Option<JustifiedList>, Memory> {
+    if project.format != 2 {
+        return Ok(None);
+    }
+    let mut list = List::new(alloc);
+    for justified in project.justified.as_slice() {
+        list.push(Justified {
+            line: text_of(alloc, justified.line.as_str())?,
+            reason: text_of(alloc, justified.reason.as_str())?,
+        })?;
+    }
+    Ok(Some(list))
 }
 
 // Whether a report's criteria decide its status, and then whether they are met.

@@ -129,11 +129,7 @@ pub fn task_text<S: Shelf>(
 }
 
 /// The text for the words, or why there is none.
-pub fn text_for<S: Shelf>(
-    alloc: Global,
-    words: &[String],
-    shelf: &mut S,
-) -> Result<Output, Refusal>
+pub fn text_for<S: Shelf>(alloc: Global, words: &[String], shelf: &mut S) -> Result<Output, Refusal>
     ensures keeps { S.files shelf.new ≡ S.files shelf.old }
     ensures none_falls { NoneFalls (counts_of (S.faults shelf.old) (S.misses shelf.old) (S.longs shelf.old))
         (counts_of (S.faults shelf.new) (S.misses shelf.new) (S.longs shelf.new)) }

@@ -311,9 +311,13 @@ fn scores(rt: HostRuntime) -> Result<(), Fail> {
     let mut shelf = MemoryShelf::new(rt.alloc(), &[])?;
     let project = format!(in rt.alloc(); "{PROJECT}{TEST}")?;
     shelf.add("p.toml", project.as_bytes())?;
-    shelf.add("a.c", b"int v;\nvoid g(void);\nvoid f(void) { v = 7; g(); }\n")?;
+    shelf.add(
+        "a.c",
+        b"int v;\nvoid g(void);\nvoid f(void) { v = 7; g(); }\n",
+    )?;
     shelf.add("b.c", b"extern int v;\nint w;\nvoid g(void) { w = v; }\n")?;
-    let table = "row,kind,from,to,definition,use,name,test\n1,call,A,B,a.c:3:23,b.c:3:6,g,T1\n2,shared,A,B,a.c:3:16,b.c:3:20,v,T1\ncall-coupling met 1/1\nall-coupling-defs met 1/1\nall-coupling-uses met 1/1\n";
+    let table =
+        "row,kind,from,to,definition,use,name,test\n1,call,A,B,a.c:3:23,b.c:3:6,g,T1\n2,shared,A,B,a.c:3:16,b.c:3:20,v,T1\ncall-coupling met 1/1\nall-coupling-defs met 1/1\nall-coupling-uses met 1/1\n";
     assert!(rt; answers(rt.alloc(), &["score", "p.toml"], &mut shelf, table, "", 0)?);
     Ok(())
 }
