@@ -182,8 +182,8 @@ refused_told project contents refusal h below = inr (line_of refusal, status_3 r
 pub refused_whole : (refusal : Refusal) → status_of refusal ≢ 2 → status_of refusal < 4 → OfWhole (reply_of refusal)
 refused_whole refusal h below = inr (line_of refusal, status_3 refusal h below)
 
-pub refused_report : (what : Report) (refusal : Refusal) → status_of refusal ≢ 2 → status_of refusal < 4 → OfReport what (reply_of refusal)
-refused_report what refusal h below = inr (line_of refusal, status_3 refusal h below)
+pub refused_report : (what : Report) (project : Project) (refusal : Refusal) → status_of refusal ≢ 2 → status_of refusal < 4 → OfReport what project (reply_of refusal)
+refused_report what project refusal h below = inr (line_of refusal, status_3 refusal h below)
 
 -- what is told of the files is told of the project that names them
 pub document_told : (o : Option Files) (w : Work) (name bytes : List ℕ) (project : Project) (r : Outcome) → IsProject bytes project

@@ -20,6 +20,8 @@ use Rattle.cc_project.specs.declared.fault.ProjectFault.TheVariants.{NotToml, Sh
 use Rattle.cc_reports.specs.Reports.{IsReport}
 use Rattle.cc_reports.specs.declared.kinds.Report.{Report}
 use Rattle.cc_reports.specs.declared.kinds.Report.TheVariants.{Score, Tests, Pairs, Summary}
+use Rattle.cc_tests.specs.Bound.{AreBound}
+use Rattle.cc_top.specs.Justified.{justifications}
 use Rattle.cc_top.specs.Words.{IsCount, IsNoCommand, gen_words, words_of}
 use Rattle.cc_top.specs.declared.words.Task.{Task}
 use Rattle.cc_top.specs.declared.words.Task.TheVariants as task
@@ -97,19 +99,20 @@ judged Tests is_met = true
 judged Pairs is_met = true
 judged (Summary n) is_met = is_met
 
--- The text is the report on a program, with some tests and justifications, or a line says why there is none. That the program
--- and the tests are those of the files, and which line it is, no definition says yet.
-abbrev pub OfReport : Report → Reply → Type 0
-OfReport what reply =
+-- The text is the report on a program with the tests and the justifications of the project, each call of a test tied to an
+-- entry of the program, or a line says why there is none. That the program is that of the files, and which line it is, no
+-- definition says yet.
+abbrev pub OfReport : Report → Project → Reply → Type 0
+OfReport what project reply =
     ((P : Program) × (tests : List Test) × (justified : Option (List Justified)) × (text : List ℕ) × (is_met : Bool)
-    × IsReport what P tests justified text is_met × (reply ≡ made text (judged what is_met)))
+    × AreBound P project.tests tests × (justified ≡ justifications project) × IsReport what P tests justified text is_met × (reply ≡ made text (judged what is_met)))
     ⊎ ((line : List ℕ) × (reply ≡ refused line 3))
 
 -- what is done over files that are read, where these are the bytes of the project file
 abbrev pub OfFiles : Work → List ℕ → Project → List (List ℕ) → Reply → Type 0
 OfFiles work.List bytes project contents reply = OfListed bytes project contents reply
 OfFiles work.Check bytes project contents reply = OfChecked project contents reply
-OfFiles (work.Report what) bytes project contents reply = OfReport what reply
+OfFiles (work.Report what) bytes project contents reply = OfReport what project reply
 
 -- the bytes are no document, or one that breaks a rule, or a project, whose files are read in their order
 abbrev pub OfBytes : Work → Files → List ℕ → List ℕ → Reply → Type 0

@@ -1,11 +1,13 @@
 // The reports that `score`, `tests`, `pairs` and `gen` answer with.
 //
 // Each step that reads the shelf says what the module `steps` says.
-ghost use Rattle.std.specs.Prelude.{◌≡◌, ◌≢◌, ◌≤◌, All, IfErr, IfSome, length};
+ghost use Rattle.std.specs.Prelude.{◌≡◌, ◌≢◌, ◌≤◌, All, IfErr, IfOk, IfSome, length, map};
+ghost use Rattle.cc_tests.specs.Bound.{AreBound};
 ghost use Rattle.cc_top.specs.Answer.{OfReport};
 ghost use Rattle.cc_top.specs.Answer as spec;
 ghost use Rattle.cc_top.specs.Counts.{Caused, NoneFalls, counts_of};
 ghost use Rattle.cc_top.specs.Holds.{IsShort};
+ghost use Rattle.cc_top.specs.Justified as reasons;
 ghost use Rattle.cc_top.specs.Reads.{IsIncludedIn};
 ghost use Rattle.cc_top.specs.Refusal.{FaultNames, IsOfInput, status_of};
 ghost use Rattle.cc_top.specs.Tells.{Tells};
@@ -18,23 +20,37 @@ use cc_base::{List, Memory};
 use cc_front::{Built, front};
 use cc_io::{ByteList, Shelf};
 use cc_meaning::{Justified, JustifiedList};
-use cc_project::Project;
+use cc_project::{Project, RawJustified};
 use cc_reports::{Report, report};
 use std::alloc::Global;
 
-// The justifications of a project; one of the first format has none.
-fn justifications(alloc: Global, project: &Project) -> Result<Option<JustifiedList>, Memory> {
-    if project.format != 2 {
-        return Ok(None);
-    }
+fn justification(alloc: Global, raw: &RawJustified) -> Result<Justified, Memory>
+    ensures { IfOk result (λ made. made ≡ reasons.justification raw.now) }
+{
+    let line = text_of(alloc, raw.line.as_str())?;
+    let reason = text_of(alloc, raw.reason.as_str())?;
+    Ok(Justified { line, reason })
+}
+
+fn justifications_in(alloc: Global, raw: &[RawJustified]) -> Result<JustifiedList, Memory>
+    ensures { IfOk result (λ list. list ≡ map reasons.justification raw.now) }
+{
     let mut list = List::new(alloc);
-    for justified in project.justified.as_slice() {
-        list.push(Justified {
-            line: text_of(alloc, justified.line.as_str())?,
-            reason: text_of(alloc, justified.reason.as_str())?,
-        })?;
+    for justified in raw {
+        list.push(justification(alloc, justified)?)?;
     }
-    Ok(Some(list))
+    Ok(list)
+}
+
+// The justifications of a project; in one of the first format no row can be justified.
+fn justifications(alloc: Global, project: &Project) -> Result<Option<JustifiedList>, Memory>
+    ensures { IfOk result (λ all. all ≡ reasons.justifications project.now) }
+{
+    if project.format == 2 {
+        Ok(Some(justifications_in(alloc, project.justified.as_slice())?))
+    } else {
+        Ok(None)
+    }
 }
 
 // Whether a report's criteria decide its status, and then whether they are met.
@@ -55,7 +71,8 @@ fn built_reported(
     project: &Project,
     built: &Built,
 ) -> Result<Output, Refusal>
-    ensures told { Tells (OfReport what) result }
+    requires bound { AreBound built.now.program project.now.tests built.now.tests }
+    ensures told { Tells (OfReport what project.now) result }
     ensures input { IfErr result IsOfInput }
 {
     let justified = match justifications(alloc, project) {
@@ -91,7 +108,7 @@ pub fn files_reported<S: Shelf>(
     ensures keeps { S.files shelf.new ≡ S.files shelf.old }
     ensures none_falls { NoneFalls (counts_of (S.faults shelf.old) (S.misses shelf.old) (S.longs shelf.old))
         (counts_of (S.faults shelf.new) (S.misses shelf.new) (S.longs shelf.new)) }
-    ensures told { Tells (OfReport what) result }
+    ensures told { Tells (OfReport what project.now) result }
     ensures caused { IfErr result (Caused (counts_of (S.faults shelf.old) (S.misses shelf.old) (S.longs shelf.old))
         (counts_of (S.faults shelf.new) (S.misses shelf.new) (S.longs shelf.new))) }
     ensures kind { IfErr result (λ refusal. status_of refusal ≢ 2) }
