@@ -12,6 +12,7 @@ use Rattle.cc_meaning.specs.declared.test.Test.{Test}
 use Rattle.cc_program.specs.declared.program.Program.{Program}
 use Rattle.cc_score.specs.Conflicts.{Clashes, IsLeast}
 use Rattle.cc_score.specs.declared.clash.Conflict.{Conflict}
+use Rattle.cc_scoring.specs.Runs.{AnyIsLost}
 use Rattle.cc_scoring.specs.Scored.{IsScored}
 use Rattle.cc_tables.specs.Justifying as justifying
 use Rattle.cc_reports.specs.declared.steps.Listed.{Listed}
@@ -38,6 +39,10 @@ first_unknown P rows None = None
 -- what the runs of the tests over the acts of the program exercise of the rows
 abbrev pub AreScores : Program → List Coupling → List Test → Scores → Type 0
 AreScores P rows tests scores = (acts : Acts) × IsScored P acts rows tests scores
+
+-- the machine is lost in a test's run over the acts of the program
+abbrev pub IsAstray : List Test → Type 0
+IsAstray tests = (acts : Acts) × AnyIsLost acts tests
 
 -- of the rows that have a reason and a mark it is the one with the least justification, and of these the least
 abbrev pub IsConflict : (marks : List (Option ℕ)) → Option (List (Option RowReason)) → Conflict → Type 0
