@@ -9,6 +9,10 @@ pub enum Report {
     Tests,
     /// How many rows stand between two components.
     Pairs,
+    /// Which tests can be left out.
+    Reduce,
+    /// In which order each test adds most.
+    Order,
     /// What is found of the generated project of this number, and the lines of the criteria.
     Summary(u32),
 }

@@ -83,7 +83,7 @@ letter ([] ∷ words) = 0
 letter ((a ∷ word) ∷ words) = a
 
 task_at : ℕ → Task
-task_at a = cond (nat_eq a 108) task.List (cond (nat_eq a 99) task.Check (cond (nat_eq a 115) task.Score (cond (nat_eq a 116) task.Tests task.Pairs)))
+task_at a = cond (nat_eq a 108) task.List (cond (nat_eq a 99) task.Check (cond (nat_eq a 115) task.Score (cond (nat_eq a 116) task.Tests (cond (nat_eq a 112) task.Pairs (cond (nat_eq a 114) task.Reduce task.Order)))))
 
 letter_tells : (t : Task) (name : List ℕ) → task_at (letter (words_of t name)) ≡ t
 unfolding letter task_at
@@ -92,6 +92,8 @@ letter_tells task.Check name = refl
 letter_tells task.Score name = refl
 letter_tells task.Tests name = refl
 letter_tells task.Pairs name = refl
+letter_tells task.Reduce name = refl
+letter_tells task.Order name = refl
 
 pub same_task : (t u : Task) (p q : List ℕ) → words_of t p ≡ words_of u q → t ≡ u
 same_task t u p q e = sym (letter_tells t p) ∙ ap (λ words. task_at (letter words)) e ∙ letter_tells u q

@@ -51,6 +51,8 @@ no_generated task.Check name n e = let f = e in cc
 no_generated task.Score name n e = let f = e in cc
 no_generated task.Tests name n e = let f = e in cc
 no_generated task.Pairs name n e = let f = e in cc
+no_generated task.Reduce name n e = let f = e in cc
+no_generated task.Order name n e = let f = e in cc
 
 -- so words that ask for a task ask for no generated project
 pub apart : {A : Type 0} (words : List (List ℕ)) (t : Task) (name : List ℕ) (n : ℕ) → words ≡ words_of t name → words ≡ gen_words n → A

@@ -72,6 +72,8 @@ gen_is_no_task word is task.Check = λ e. let f = sym is ∙ e in cc
 gen_is_no_task word is task.Score = λ e. let f = sym is ∙ e in cc
 gen_is_no_task word is task.Tests = λ e. let f = sym is ∙ e in cc
 gen_is_no_task word is task.Pairs = λ e. let f = sym is ∙ e in cc
+gen_is_no_task word is task.Reduce = λ e. let f = sym is ∙ e in cc
+gen_is_no_task word is task.Order = λ e. let f = sym is ∙ e in cc
 
 -- words that aren't two are no command
 pub no_two : (words : List (List ℕ)) → length words ≢ 2 → IsNoCommand words

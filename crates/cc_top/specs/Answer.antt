@@ -19,7 +19,7 @@ use Rattle.cc_project.specs.WellMade.{file_names_of}
 use Rattle.cc_project.specs.declared.fault.ProjectFault.TheVariants.{NotToml, Shape}
 use Rattle.cc_reports.specs.Reports.{IsReport}
 use Rattle.cc_reports.specs.declared.kinds.Report.{Report}
-use Rattle.cc_reports.specs.declared.kinds.Report.TheVariants.{Score, Tests, Pairs, Summary}
+use Rattle.cc_reports.specs.declared.kinds.Report.TheVariants.{Score, Tests, Pairs, Summary, Reduce, Order}
 use Rattle.cc_tests.specs.Bound.{AreBound}
 use Rattle.cc_top.specs.Justified.{justifications}
 use Rattle.cc_top.specs.Words.{IsCount, IsNoCommand, gen_words, words_of}
@@ -97,6 +97,8 @@ abbrev pub judged : Report → (is_met : Bool) → Bool
 judged Score is_met = is_met
 judged Tests is_met = true
 judged Pairs is_met = true
+judged Reduce is_met = true
+judged Order is_met = true
 judged (Summary n) is_met = is_met
 
 -- The text is the report on a program with the tests and the justifications of the project, each call of a test tied to an
@@ -128,6 +130,8 @@ work_of task.Check = work.Check
 work_of task.Score = work.Report Score
 work_of task.Tests = work.Report Tests
 work_of task.Pairs = work.Report Pairs
+work_of task.Reduce = work.Report Reduce
+work_of task.Order = work.Report Order
 
 -- the name of a generated project
 abbrev pub generated_name : List ℕ

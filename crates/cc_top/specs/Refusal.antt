@@ -22,7 +22,7 @@ use Rattle.cc_top.specs.declared.refusal.Refusal.TheVariants.{Usage, ReadFault, 
 use Rattle.cc_top.specs.declared.refusal.Refusal.TheVariants as refusal
 
 abbrev pub usage_line : List ℕ
-usage_line = codes "usage: coupling check|list|score|tests|pairs P | gen N\n"
+usage_line = codes "usage: coupling check|list|score|tests|pairs P | gen N | reduce P | order P\n"
 
 abbrev pub missing_line : List ℕ → List ℕ
 missing_line name = name ++ codes ": missing\n"

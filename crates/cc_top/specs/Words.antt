@@ -17,6 +17,8 @@ word_of task.Check = codes "check"
 word_of task.Score = codes "score"
 word_of task.Tests = codes "tests"
 word_of task.Pairs = codes "pairs"
+word_of task.Reduce = codes "reduce"
+word_of task.Order = codes "order"
 
 -- the words that ask this of a project
 abbrev pub words_of : Task → List ℕ → List (List ℕ)

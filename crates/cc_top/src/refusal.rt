@@ -194,7 +194,7 @@ impl Refusal {
         match self {
             Refusal::Usage => String::from_str(
                 alloc,
-                "usage: coupling check|list|score|tests|pairs P | gen N\n",
+                "usage: coupling check|list|score|tests|pairs P | gen N | reduce P | order P\n",
             ),
             Refusal::ReadFault(name) => format!(in alloc; "{name}: read fault\n"),
             Refusal::Missing(name) => format!(in alloc; "{name}: missing\n"),

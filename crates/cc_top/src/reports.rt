@@ -59,7 +59,7 @@ fn judged(what: Report, is_met: bool) -> bool
 {
     match what {
         Report::Score | Report::Summary(_) => is_met,
-        Report::Tests | Report::Pairs => true,
+        Report::Tests | Report::Pairs | Report::Reduce | Report::Order => true,
     }
 }
 

@@ -17,6 +17,10 @@ pub enum Task {
     Tests,
     /// How many couplings lead from which component to which, and how many of them are exercised.
     Pairs,
+    /// The tests that can be left out without losing a coupling.
+    Reduce,
+    /// The tests in the order in which each adds most.
+    Order,
 }
 
 /// What the words ask for.
@@ -39,6 +43,8 @@ fn task_of(word: &str) -> Option<Task>
         "score" => Some(Task::Score),
         "tests" => Some(Task::Tests),
         "pairs" => Some(Task::Pairs),
+        "reduce" => Some(Task::Reduce),
+        "order" => Some(Task::Order),
         _ => None,
     }
 }

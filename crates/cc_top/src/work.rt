@@ -27,6 +27,8 @@ impl Task {
             Task::Score => Work::Report(Report::Score),
             Task::Tests => Work::Report(Report::Tests),
             Task::Pairs => Work::Report(Report::Pairs),
+            Task::Reduce => Work::Report(Report::Reduce),
+            Task::Order => Work::Report(Report::Order),
         }
     }
 }
