@@ -1,2 +1,3 @@
+pub mod Ascending
 pub mod Ordered
 pub mod Short

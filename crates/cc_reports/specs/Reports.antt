@@ -13,7 +13,7 @@ use Rattle.cc_reports.specs.declared.fault.ReportFault.{ReportFault}
 use Rattle.cc_reports.specs.declared.fault.ReportFault.TheVariants as fault
 use Rattle.cc_reports.specs.declared.kinds.Report.{Report}
 use Rattle.cc_reports.specs.Found.{AreScores, IsAstray, IsConflict, IsFound, IsListed, first_unknown, reasons_of}
-use Rattle.cc_reports.specs.Texts.{is_met, report_text}
+use Rattle.cc_reports.specs.Texts.{IsText, is_met}
 
 -- The text is what the command prints of the program and its tests, and the flag tells whether the criteria are met.
 pub record IsReport (what : Report) (P : Program) (tests : List Test) (justified : Option (List Justified)) (text : List ℕ) (met : Bool) : Type 0 where
@@ -21,7 +21,7 @@ pub record IsReport (what : Report) (P : Program) (tests : List Test) (justified
   pub reasons : Option (List (Option RowReason))
   pub scores : Scores
   pub found : IsFound P tests justified rows reasons scores
-  pub says : text ≡ report_text what P tests rows reasons scores
+  pub says : IsText what P tests rows reasons scores text
   pub tells : met ≡ is_met rows reasons scores
 
 -- the first justification whose line is no row's text is the one of this number

@@ -1,6 +1,7 @@
 // From a program and its tests to a report.
 ghost use Rattle.std.specs.Prelude.{◌≡◌, IfErr, IfOk};
 ghost use Rattle.std.specs.Option.{option_copied};
+ghost use Rattle.cc_reduce.specs.Ordered.{AreAscending};
 ghost use Rattle.cc_score.specs.Order.{IsOrdered};
 ghost use Rattle.cc_reports.specs.Reports.{IsRefused, IsReport};
 ghost use Rattle.cc_reports.specs.Texts as spec;
@@ -24,9 +25,10 @@ fn reported(
     tests: &TestList,
     found: &Found,
 ) -> Result<Reported, Memory>
-    requires { IsOrdered found.now.listing }
-    ensures text { IfOk result (λ made. made.text.items ≡ spec.report_text what program.now tests.now
-        found.now.listing found.now.reasons found.now.scores) }
+    requires ordered { IsOrdered found.now.listing }
+    requires ascending { AreAscending found.now.scores.exercised }
+    ensures text { IfOk result (λ made. spec.IsText what program.now tests.now
+        found.now.listing found.now.reasons found.now.scores made.text.items) }
     ensures met { IfOk result (λ made. made.is_met
         ≡ spec.is_met found.now.listing found.now.reasons found.now.scores) }
 {

@@ -1,5 +1,6 @@
 // The texts of the commands.
 ghost use Rattle.std.specs.Prelude.{◌≡◌, IfOk, string_bytes};
+ghost use Rattle.cc_reduce.specs.Ordered.{AreAscending};
 ghost use Rattle.cc_reports.specs.Texts as spec;
 
 use crate::found::Found;
@@ -7,6 +8,7 @@ use crate::kinds::Report;
 use cc_base::Memory;
 use cc_meaning::{TestList, Verdicts};
 use cc_program::Program;
+use cc_reduce::{order, order_csv, reduce, reduce_csv};
 use cc_tables::{pairs_csv, score_csv, tests_csv};
 use cc_verdicts::{covered_rows, summary_line, verdict_lines};
 use std::alloc::{AllocError, Global};
@@ -43,6 +45,31 @@ fn score_text(
     Ok(text)
 }
 
+// The text of `reduce`.
+fn reduce_text(
+    alloc: Global,
+    tests: &TestList,
+    found: &Found,
+) -> Result<Vec<u8>, Memory>
+    ensures { IfOk result (λ text. text.items ≡ spec.reduce_report tests.now found.now.listing found.now.scores) }
+{
+    let marks = reduce(alloc, &found.listing, &found.scores)?;
+    reduce_csv(alloc, &found.scores, &marks, tests)
+}
+
+// The text of `order`.
+fn order_text(
+    alloc: Global,
+    tests: &TestList,
+    found: &Found,
+) -> Result<Vec<u8>, Memory>
+    requires { AreAscending found.now.scores.exercised }
+    ensures { IfOk result (λ text. spec.IsOrderText tests.now found.now.listing found.now.scores text.items) }
+{
+    let places = order(alloc, &found.listing, &found.scores)?;
+    order_csv(alloc, &found.scores, &places, tests)
+}
+
 // The text of `gen`.
 fn summary_text(
     alloc: Global,
@@ -69,13 +96,16 @@ pub fn text_of(
     found: &Found,
     verdicts: Verdicts,
 ) -> Result<Vec<u8>, Memory>
-    ensures { IfOk result (λ text. text.items ≡ spec.text_with what program.now tests.now
-        found.now.listing found.now.reasons found.now.scores verdicts) }
+    requires { AreAscending found.now.scores.exercised }
+    ensures { IfOk result (λ text. spec.IsTextWith what program.now tests.now
+        found.now.listing found.now.reasons found.now.scores verdicts text.items) }
 {
     match what {
         Report::Score => score_text(alloc, program, tests, found, verdicts),
         Report::Tests => tests_csv(alloc, program, &found.listing, &found.scores, tests),
         Report::Pairs => pairs_csv(alloc, program, &found.listing, &found.scores, tests),
+        Report::Reduce => reduce_text(alloc, tests, found),
+        Report::Order => order_text(alloc, tests, found),
         Report::Summary(number) => summary_text(alloc, number, found, verdicts),
     }
 }

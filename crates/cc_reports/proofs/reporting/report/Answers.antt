@@ -1,5 +1,10 @@
+use Rattle.cc_reports.proofs.Ascending.{scores_ascend}
 use Rattle.cc_reports.proofs.Ordered.{listed_ordered}
 use Rattle.cc_reports.proofs.reporting.report.Goals as goal
 
-pub reported-requires : goal.reported-requires
-reported-requires c = listed_ordered c.args.program.now c.in-Ok.found.listing c.in-Ok.ensures.found.listed
+pub reported-requires-ordered : goal.reported-requires-ordered
+reported-requires-ordered c = listed_ordered c.args.program.now c.in-Ok.found.listing c.in-Ok.ensures.found.listed
+
+pub reported-requires-ascending : goal.reported-requires-ascending
+reported-requires-ascending c =
+    scores_ascend c.args.program.now c.in-Ok.found.listing c.args.tests.now c.in-Ok.found.scores c.in-Ok.ensures.found.scored
