@@ -2,3 +2,4 @@ pub mod Named
 pub mod Numbers
 pub mod Places
 pub mod Scores
+pub mod Watched

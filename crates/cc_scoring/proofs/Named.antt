@@ -1,5 +1,5 @@
 -- A mark names the first test.
-use Rattle.std.proofs.Common.{◌≡◌, ℕ, zero, suc, ◌+◌, ◌<◌, ⊎_elim, List, [], ◌∷◌, ◌++◌, Option, Some, None, Bool, true, false, length, get_or, refl, ap, sym, ◌∙◌, subst, arith}
+use Rattle.std.proofs.Common.{◌≡◌, ℕ, zero, suc, ◌+◌, ◌<◌, ⊎_elim, List, [], ◌∷◌, Option, Some, None, Bool, true, false, length, refl, ap, sym, ◌∙◌, subst, arith}
 use Rattle.std.specs.Prelude.{Contains, slice_get}
 use Rattle.std.proofs.lemmas.Bool.{cases_eq, eqb-true, eq-eqb, or_cases, or_left, or_right, true≢false}
 use Rattle.std.proofs.lemmas.List.{length_push}
@@ -22,7 +22,7 @@ use Rattle.cc_score.specs.Any.{any_to}
 use Rattle.cc_score.specs.Firsts.{exercises, first_to, has_to, is_row, marks_to, or_test}
 use Rattle.cc_scoring.specs.Firsts.{AreOrderly, Exercises, IsMark, MarksNameFirst}
 use Rattle.cc_scoring.specs.Runs.{IsRun, most_cells}
-use Rattle.cc_scoring.specs.Scored.{AreScored, IsOfTest, IsScored}
+use Rattle.cc_scoring.specs.Scored.{IsScored}
 use Rattle.cc_scoring.proofs.Places.{at_push, before_push}
 
 -- ---- a test has one run

@@ -1,5 +1,5 @@
 -- One test more.
-use Rattle.std.proofs.Common.{◌≡◌, ℕ, ◌+◌, ◌<◌, ⊎_elim, List, [], ◌∷◌, ◌++◌, Option, Some, length, refl, ap, sym, ◌∙◌, subst, arith}
+use Rattle.std.proofs.Common.{◌≡◌, ℕ, ◌+◌, ◌<◌, ⊎_elim, List, [], ◌∷◌, ◌++◌, Some, refl, ap, sym, ◌∙◌, arith}
 use Rattle.std.specs.Prelude.{◌↔◌, Contains, slice_get}
 use Rattle.std.proofs.lemmas.Bool.{cases_eq}
 use Rattle.std.proofs.lemmas.List.{length_push}
@@ -48,6 +48,7 @@ module _ (P : Program) (G : Acts) (rows : List Coupling) (tests : List Test) whe
         end_at = at_push ends «end» t (same ∙ sym before.ends_length);
         is_of_run = is;
       }
+
       earlier : (t : ℕ) → t < count → IsOfTest P G rows tests (sets ++ set ∷ []) (ends ++ «end» ∷ []) t
       earlier t lt =
           let w = before.each t lt in
