@@ -1,5 +1,5 @@
 // Rows that tests cover.
-ghost use Rattle.std.specs.Prelude.{◌≡◌, ◌+◌, ◌<◌, ◌&&◌, ◌||◌, ℕ, length, not, Some};
+ghost use Rattle.std.specs.Prelude.{◌≡◌, ◌+◌, ◌<◌, ◌&&◌, ◌||◌, ℕ, false, length, not, Some, true};
 ghost use Rattle.std.specs.List.Sorted.{IsStrictlyIncreasing};
 ghost use Rattle.cc_score.specs.Firsts.{exercises};
 ghost use Rattle.cc_tables.specs.TestTable as table;
@@ -17,6 +17,15 @@ pub fn rows_of(scores: &Scores, test: usize) -> &[u32]
     }
 }
 
+// Whether there is such a row, and it is not covered.
+fn is_open(covered: &[bool], row: u32) -> bool
+    ensures open { result ≡ true → (row < length covered.now) × (at covered.now row ≡ false) }
+    ensures closed { result ≡ false → row < length covered.now → at covered.now row ≡ true }
+{
+    let row = row as usize;
+    row < covered.len() && !covered[row]
+}
+
 /// Marks these rows as covered, and says how many were not.
 pub fn cover(covered: &mut [bool], rows: &[u32]) -> usize
     ensures covered { (row : ℕ) → row < length covered.old → at covered.new row ≡ (at covered.old row || exercises (Some rows.now) row) }
@@ -25,9 +34,8 @@ pub fn cover(covered: &mut [bool], rows: &[u32]) -> usize
 {
     let mut added = 0;
     for row in rows {
-        let row = *row as usize;
-        if row < covered.len() && !covered[row] {
-            covered[row] = true;
+        if is_open(covered, *row) {
+            covered[*row as usize] = true;
             added += 1;
         }
     }
@@ -41,8 +49,7 @@ pub fn uncovered(covered: &[bool], rows: &[u32]) -> usize
 {
     let mut count = 0;
     for row in rows {
-        let row = *row as usize;
-        if row < covered.len() && !covered[row] {
+        if is_open(covered, *row) {
             count += 1;
         }
     }
