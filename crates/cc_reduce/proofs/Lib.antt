@@ -1,5 +1,7 @@
 pub mod Counts
-pub mod Marked
 pub mod Judged
+pub mod Looked
+pub mod Marked
 pub mod More
+pub mod Places
 pub mod Tests

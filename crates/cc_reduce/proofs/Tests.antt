@@ -57,3 +57,7 @@ has_within sets test row h =
 pub rows_or_none : (o : Option (List ℕ)) (row : ℕ) → exercises (Some (rows_or o)) row ≡ exercises o row
 rows_or_none (Some rows) row = refl
 rows_or_none None row = refl
+
+-- one row more
+pub any_more : (f : ℕ → Bool) (count : ℕ) → any_to f (count + 1) ≡ f count || any_to f count
+any_more f count = let e : count + 1 ≡ suc count = omega arith in ap (any_to f) e

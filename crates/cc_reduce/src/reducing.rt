@@ -27,8 +27,9 @@ pub fn reduce(alloc: Global, listing: &Listing, scores: &Scores) -> Result<TestM
     let mut kept = vec![in alloc; true; scores.exercised.len() as usize]?;
     for test in (0..scores.exercised.len() as usize).rev() {
         let rows = rows_of(scores, test);
-        kept[test] = has_new(&first, &later, test, rows);
-        if kept[test] {
+        let is_needed = has_new(&first, &later, test, rows);
+        kept[test] = is_needed;
+        if is_needed {
             cover(&mut later, rows);
         }
     }
