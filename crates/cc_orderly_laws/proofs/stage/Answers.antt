@@ -1,0 +1,6 @@
+use Rattle.std.proofs.Common.{refl}
+use Rattle.cc_orderly_laws.proofs.Order.{orderly_after}
+use Rattle.cc_orderly_laws.proofs.stage.Goals as goal
+
+pub returns : goal.returns
+returns c = λ n. refl

@@ -1,0 +1,9 @@
+//! Stage.
+#![tactic(auto)]
+
+ghost use Rattle.cc_orderly_laws.specs.Stage.{Law};
+
+/// Stage.
+pub fn stage()
+    ensures { Law }
+{}
