@@ -1,5 +1,5 @@
 -- What holds of the events so far and of the state, and keeps their order.
-use Rattle.std.proofs.Common.{◌≡◌, ℕ, ◌+◌, ◌≤◌, List, [], ◌∷◌, ◌++◌, Option, Some, None, Bool, true, false, refl, sym, ap, ◌∙◌, subst, arith}
+use Rattle.std.proofs.Common.{◌≡◌, ℕ, ◌+◌, ◌<◌, ◌≤◌, List, [], ◌∷◌, ◌++◌, Option, Some, None, Bool, true, false, refl, sym, ap, ◌∙◌, subst, arith}
 use Rattle.std.specs.Prelude.{cond, nat_eq, ◌==◌, slice_set}
 use Rattle.std.proofs.lemmas.Bool.{ne_eqb}
 use Rattle.cc_program.specs.declared.function.FuncId.{FuncId}
@@ -18,7 +18,7 @@ use Rattle.cc_record_laws.specs.Past.{leaves, enters}
 use Rattle.cc_record_laws.specs.Orderly.{ends_cell, some_of, Lives, IsOrderlyAfter}
 use Rattle.cc_record_laws.proofs.Drops.{none_more}
 use Rattle.cc_record_laws.proofs.Exact.{eqb_is}
-use Rattle.cc_orderly_laws.proofs.Numbers.{Numbered, numbered_on, one_more, one_less}
+use Rattle.cc_orderly_laws.proofs.Numbers.{Numbered, falls_more, numbered_on, one_more, one_less}
 
 -- the object with the instance ends
 abbrev pub ends : ℕ → Event → Bool
@@ -53,13 +53,23 @@ pub record Ordered (past : List Event) (acts : List ℕ) (next : ℕ) (store : L
 abbrev pub InOrder : List Event → List ℕ → State → Type 0
 InOrder past acts s = Ordered past acts s.next_act s.store
 
--- before the first event
-pub nothing_yet : Ordered [] [] 1 (record { objects = []; next = 0 })
+-- before the first event, where only the static objects are initialised
+pub nothing_yet : Ordered [] (0 ∷ []) 1 (record { objects = []; next = 0 })
 nothing_yet = record {
   entered = λ a le. refl;
-  running = record { falls = tt; held = tt; later = λ n le. refl };
+  running = record { falls = (omega arith, tt); held = (refl, tt); later = λ n le. refl };
   living = record { falls = tt; held = tt; later = λ n le. refl };
 }
+
+-- an activation that goes on without being told of
+pub forgotten : (past : List Event) (a : ℕ) (acts : List ℕ) (next : ℕ) (store : Live) → Ordered past (a ∷ acts) next store → Ordered past acts next store
+forgotten past a acts next store o =
+    let lt : a < next = o.running.falls.0 in
+    record {
+      entered = o.entered;
+      running = record { falls = falls_more acts a next (omega (arith, lt)) o.running.falls.1; held = o.running.held.1; later = o.running.later };
+      living = o.living;
+    }
 
 module _ (past : List Event) (acts : List ℕ) (next : ℕ) where
   entered_on : (store : Live) (e : Event) → ((a : ℕ) → enters a e ≡ false) → Ordered past acts next store → (a : ℕ) → next ≤ a → some_of (enters a) (past ++ e ∷ []) ≡ false

@@ -1,6 +1,6 @@
 -- The machine's steps keep the order.
-use Rattle.std.proofs.Common.{◌≡◌, ℕ, zero, suc, ◌+◌, ℤ, pos, List, [], ◌∷◌, ◌++◌, length, take, drop, inl, inr, Option, Some, None, Bool, true, false, refl, sym, ap, ◌∙◌}
-use Rattle.std.specs.Prelude.{cond, slice_get, ◌⊎◌}
+use Rattle.std.proofs.Common.{◌≡◌, ℕ, zero, suc, ◌+◌, ℤ, pos, List, [], ◌∷◌, ◌++◌, length, take, drop, inl, inr, Option, Some, None, Bool, true, false, refl, sym, ap, ◌∙◌, subst}
+use Rattle.std.specs.Prelude.{cond, slice_get, ◌⊎◌, ◌&&◌}
 use Rattle.cc_arith.specs.declared.kind.IntKind.{IntKind}
 use Rattle.cc_arith.specs.declared.unary_operator.IntUnary.{IntUnary}
 use Rattle.cc_arith.specs.Conversions.{converted}
@@ -30,7 +30,7 @@ use Rattle.cc_acts.specs.Parts.{taken, inner, write, copy, operate, unary, conve
 use Rattle.cc_acts.specs.Steps
 use Rattle.cc_acts.specs.Steps.{Config, At, Halted, args_of}
 use Rattle.cc_orderly_laws.specs.Entered.{enters_at, enters_first, all_enter, is_entry, AreEntered}
-use Rattle.cc_orderly_laws.proofs.Order.{InOrder, Keeps, keeps_on}
+use Rattle.cc_orderly_laws.proofs.Order.{InOrder, forgotten, Keeps, keeps_on}
 use Rattle.cc_orderly_laws.proofs.Parts.{Calm, calm_taken, calm_inner, calm_write, calm_copy, calm_operate, calm_unary, calm_convert, calm_make, calm_fill, calm_fill_all, calm_end_names, calm_ask, calm_result, entered, left}
 
 -- the activations that wait for a call
@@ -43,11 +43,17 @@ abbrev pub Stands : Acts → List Event → Config → State → Type 0
 Stands G past (At point frame ops callers) s = InOrder past (frame.act ∷ acts_of callers) s ⊎ ((enters_at (slice_get G.nodes point) ≡ true) × InOrder past (acts_of callers) s)
 Stands G past Halted s = InOrder past [] s
 
--- an entry among those that enter
+both_true : (a b : Bool) → (a && b) ≡ true → (a ≡ true) × (b ≡ true)
+both_true true b h = (refl, h)
+both_true false b h = absurd (let z = h in cc)
+
+-- an entry of a function enters it
 pub enters_there : (nodes : List Node) (entries : List (Option ℕ)) (k point : ℕ) → all_enter nodes entries ≡ true → slice_get entries k ≡ Some (Some point) → enters_at (slice_get nodes point) ≡ true
 enters_there nodes [] k point all at = absurd (let z = at in cc)
-enters_there nodes (o ∷ os) zero point all at = ?
-enters_there nodes (o ∷ os) (suc k) point all at = ?
+enters_there nodes (o ∷ os) zero point all at =
+    let same : o ≡ Some point = (let z = at in cc) in
+    subst (λ x. enters_first nodes x ≡ true) same (both_true (enters_first nodes o) (all_enter nodes os) all).0
+enters_there nodes (o ∷ os) (suc k) point all at = enters_there nodes os k point (both_true (enters_first nodes o) (all_enter nodes os) all).1 at
 
 module _ (G : Acts) (frame : Frame) (callers : List Caller) where
   -- From where these activations are running the step tells events that are in order, and goes on so.
@@ -247,3 +253,102 @@ back : (G : Acts) (frame : Frame) (ops : List Entry) (callers : List Caller) (pa
 back G frame ops [] past s o = o
 back G frame ops (c ∷ cs) past s o =
     leads_then G c.frame cs (result_of c.site c.is_used frame.returned) (λ v. Steps.push c.site c.point c.frame ops cs v) (calm_result c.frame.act (acts_of cs) c.site c.is_used frame.returned) (λ v. leads_push G c.frame cs c.site c.point ops v) past s o
+
+-- after these events a part tells events that are in order, from each state where these activations are running
+abbrev pub From : Acts → List Event → List ℕ → Part Config → Type 0
+From G past acts m = (s : State) → InOrder past acts s → Keeps (Stands G) past (m s)
+
+turned : (G : Acts) (past : List Event) (acts : List ℕ) (takes_turn : Bool) (m : Part Config) → From G past acts m → From G past acts (Steps.turn_if takes_turn m)
+turned G past acts true m f s o = by s.turns
+  where
+    by : (n : ℕ) → Keeps (Stands G) past (turn_of n m s)
+    by zero = tt
+    by (suc t) = f (record s { turns = t }) o
+turned G past acts false m f s o = f s o
+
+-- an act at an entry
+enters_by : (G : Acts) (act : Act) → is_entry act ≡ true → (frame : Frame) (ops : List Entry) (callers : List Caller) (past : List Event) → From G past (acts_of callers) (Steps.act_by G act frame ops callers)
+enters_by G (acts.Enter callee from formals names next) h frame ops callers past s o = entering G frame callers callee from formals names next ops past s o
+enters_by G _ h frame ops callers past s o = absurd (let z = h in cc)
+
+module _ (G : Acts) (all : AreEntered G) where
+  leads_called : (frame : Frame) (callers : List Caller) (c : Caller) (ops : List Entry) (k : ℕ) (entry : Option (Option ℕ)) → slice_get G.entries k ≡ entry → (past : List Event) (s : State) → InOrder past (acts_of (c ∷ callers)) s → Keeps (Stands G) past (Steps.called frame ops (c ∷ callers) entry s)
+  leads_called frame callers c ops k (Some (Some point)) e past s o = inr (enters_there G.nodes G.entries k point all e, o)
+  leads_called frame callers c ops k (Some None) e past s o = tt
+  leads_called frame callers c ops k None e past s o = tt
+
+  module _ (frame : Frame) (callers : List Caller) where
+    leads_call_to : (occ : ℕ) (is_used : Bool) (next : ℕ) (ops : List Entry) (v : Value) → Leads G frame callers (Steps.call_to G occ is_used next frame ops callers v)
+    leads_call_to occ is_used next ops (Function g) past s o =
+        leads_called frame callers (record { site = occ; is_used = is_used; point = next; frame = frame }) ops g.0 (slice_get G.entries g.0) refl past s o
+    leads_call_to occ is_used next ops Null past s o = tt
+    leads_call_to occ is_used next ops Unwritten past s o = tt
+    leads_call_to occ is_used next ops (Int z) past s o = tt
+    leads_call_to occ is_used next ops (Points p) past s o = tt
+
+    leads_call : (occ : ℕ) (is_used : Bool) (next : ℕ) (ops : List Entry) (e : Option Entry) → Leads G frame callers (Steps.call G occ is_used next frame ops callers e)
+    leads_call occ is_used next ops None past s o = tt
+    leads_call occ is_used next ops (Some e) past s o = leads_call_to occ is_used next ops e.value past s o
+
+    leads_finish : (ops : List Entry) → Leads G frame callers (Steps.finish frame ops callers)
+    leads_finish ops past s o =
+        keeps_on (λ later x t. InOrder later (acts_of callers) t) (Stands G) (λ _. Steps.back_to frame ops (rest callers) (first callers)) (λ later x t q. back G frame ops callers later t q) past (leave frame s) (left (acts_of callers) frame past s o)
+
+    leads_leave : (names : ℕ) (ops : List Entry) → Leads G frame callers (Steps.leave_with names frame ops callers)
+    leads_leave names ops past s o =
+        leads_both G frame callers (end_names frame.base names) (Steps.finish frame ops callers) (calm_end_names frame.act (acts_of callers) frame.base names) (leads_finish ops) past s o
+
+    leads_enter : (callee : FuncId) (from formals names next : ℕ) (ops : List Entry) → Leads G frame callers (Steps.enter_at G callee from formals names next ops callers)
+    leads_enter callee from formals names next ops past s o = entering G frame callers callee from formals names next ops past s (forgotten past frame.act (acts_of callers) s.next_act s.store o)
+
+    -- one act
+    leads_act : (act : Act) (ops : List Entry) → Leads G frame callers (Steps.act_by G act frame ops callers)
+    leads_act (acts.Skip next) ops past s o = inl o
+    leads_act (acts.Constant occ v next) ops past s o = inl o
+    leads_act (acts.Hand occ next) ops past s o = leads_hand G frame callers occ next (rest ops) (first ops) past s o
+    leads_act (acts.Name occ object gives next) ops past s o = leads_name G frame callers occ object gives next ops past s o
+    leads_act (acts.Target occ gives next) ops past s o = leads_target G frame callers occ gives next (rest ops) (first ops) past s o
+    leads_act (acts.Element occ gives next) ops past s o = leads_element G frame callers occ gives next (rest ops) (first ops) past s o
+    leads_act (acts.Member occ lvalue cells offset gives next) ops past s o = leads_member G frame callers occ lvalue cells offset gives next (rest ops) (first ops) past s o
+    leads_act (acts.Forget next) ops past s o = inl o
+    leads_act (acts.Convert occ to next) ops past s o = leads_convert G frame callers occ to next (rest ops) (first ops) past s o
+    leads_act (acts.Unary occ op kind next) ops past s o = leads_unary G frame callers occ op kind next (rest ops) (first ops) past s o
+    leads_act (acts.Truth occ is_negated next) ops past s o = leads_truth G frame callers occ is_negated next (rest ops) (first ops) past s o
+    leads_act (acts.Binary occ operator next) ops past s o = leads_binary G frame callers occ operator next (rest ops) (first ops) past s o
+    leads_act (acts.Store lvalue occ to next) ops past s o = leads_store G frame callers lvalue occ to next (rest ops) (first ops) past s o
+    leads_act (acts.Copy lvalue occ count next) ops past s o = leads_copy G frame callers lvalue occ count next ops (slice_get ops count) past s o
+    leads_act (acts.Update lvalue occ operator to next) ops past s o = leads_update G frame callers lvalue occ operator to next (rest ops) (first ops) past s o
+    leads_act (acts.Step lvalue occ operator to is_after next) ops past s o = leads_step G frame callers lvalue occ operator to is_after next (rest ops) (first ops) (Int (pos 1)) past s o
+    leads_act (acts.Branch one other) ops past s o = leads_branch G frame callers one other (rest ops) (first ops) past s o
+    leads_act (acts.Shortcut occ when right next) ops past s o = leads_shortcut G frame callers occ when right next (rest ops) (first ops) past s o
+    leads_act (acts.Select kind from count other) ops past s o = leads_select G frame callers kind from count other (rest ops) (first ops) past s o
+    leads_act (acts.Call occ count is_used next) ops past s o = leads_call occ is_used next ops (slice_get ops count) past s o
+    leads_act (acts.Ask occ callee count result next) ops past s o = leads_asked G frame callers occ callee count result next ops past s o
+    leads_act (acts.Enter callee from formals names next) ops past s o = leads_enter callee from formals names next ops past s o
+    leads_act (acts.Leave names) ops past s o = leads_leave names ops past s o
+    leads_act (acts.Return occ to next) ops past s o = leads_return_by G frame callers occ to next (rest ops) (first ops) past s o
+    leads_act (acts.ReturnNone occ next) ops past s o = inl o
+    leads_act (acts.Make declarator cells name next) ops past s o = leads_made G frame callers declarator cells name next ops past s o
+    leads_act (acts.Init declarator name to next) ops past s o = leads_init G frame callers declarator name to next ops past s o
+    leads_act (acts.Fill declarator name from fillers count next) ops past s o = leads_filled G frame callers declarator name from fillers count next ops past s o
+    leads_act (acts.Drop from count next) ops past s o = leads_ended G frame callers from count next ops past s o
+
+    step_inside : (ops : List Entry) (past : List Event) (node : Option Node) → From G past (frame.act ∷ acts_of callers) (Steps.step_by G node frame ops callers)
+    step_inside ops past None s o = tt
+    step_inside ops past (Some n) s o = turned G past (frame.act ∷ acts_of callers) n.takes_turn (Steps.act_by G n.act frame ops callers) (λ t q. leads_act n.act ops past t q) s o
+
+    step_in : (ops : List Entry) (past : List Event) (node : Option Node) → enters_at node ≡ true → From G past (acts_of callers) (Steps.step_by G node frame ops callers)
+    step_in ops past None h s o = tt
+    step_in ops past (Some n) h s o = turned G past (acts_of callers) n.takes_turn (Steps.act_by G n.act frame ops callers) (enters_by G n.act h frame ops callers past) s o
+
+    -- what is done at a point
+    step_on : (point : ℕ) (ops : List Entry) (past : List Event) (s : State) → Stands G past (At point frame ops callers) s → Keeps (Stands G) past (Steps.step_by G (slice_get G.nodes point) frame ops callers s)
+    step_on point ops past s (inl o) = step_inside ops past (slice_get G.nodes point) s o
+    step_on point ops past s (inr p) = step_in ops past (slice_get G.nodes point) p.0 s p.1
+
+  -- no activation is running once the test's call has returned
+  pub driven : (k : ℕ) (c : Config) (past : List Event) (s : State) → Stands G past c s → Keeps (λ later x t. InOrder later [] t) past (Steps.drive G k c s)
+  driven zero c past s h = tt
+  driven (suc k) Halted past s h = h
+  driven (suc k) (At point frame ops callers) past s h =
+      keeps_on (Stands G) (λ later x t. InOrder later [] t) (Steps.drive G k) (λ later c t q. driven k c later t q) past (Steps.step_by G (slice_get G.nodes point) frame ops callers s) (step_on frame callers point ops past s h)

@@ -1,2 +1,3 @@
 pub mod Entered
-pub mod Stage
+pub mod Laws
+pub mod Runs

@@ -1,9 +1,13 @@
-//! Stage.
+//! The machine's runs are orderly (docs/recorder.md): a law of the definitions of the machine's step and of a test's run.
+//!
+//! A recorder is exact along a list of events in which nothing of an activation comes after its end, no cell is read after
+//! its object's end, and no activation is entered twice. Each run over acts tells such a list, if only the entries of
+//! functions are what stands where functions are entered (`specs/Entered.antt`).
 #![tactic(auto)]
 
-ghost use Rattle.cc_orderly_laws.specs.Stage.{Law};
+ghost use Rattle.cc_orderly_laws.specs.Laws.{RunsAreOrderly};
 
-/// Stage.
-pub fn stage()
-    ensures { Law }
+/// Where the entries of functions enter them, the events of each run are orderly.
+pub fn runs_are_orderly()
+    ensures { RunsAreOrderly }
 {}
