@@ -1,6 +1,6 @@
 -- The parts of a step keep the order.
-use Rattle.std.proofs.Common.{◌≡◌, ℕ, zero, suc, ◌+◌, ℤ, pos, List, [], ◌∷◌, ◌++◌, length, Option, Some, None, Result, Ok, Err, Bool, true, false, refl, sym, ap, ◌∙◌, subst, arith}
-use Rattle.std.specs.Prelude.{cond, slice_get, ◌==◌, ◌&&◌, is_some, nat_lt}
+use Rattle.std.proofs.Common.{◌≡◌, ℕ, zero, suc, ◌+◌, ℤ, pos, List, [], ◌∷◌, length, Option, Some, None, Result, Ok, Err, Bool, true, false, refl, ◌∙◌, subst, arith}
+use Rattle.std.specs.Prelude.{slice_get, ◌==◌, ◌&&◌, is_some, nat_lt}
 use Rattle.cc_arith.specs.declared.kind.IntKind.{IntKind}
 use Rattle.cc_arith.specs.declared.kind.IntKind.TheVariants.{Long}
 use Rattle.cc_arith.specs.declared.binary_operator.IntOp.{IntOp}
@@ -9,11 +9,10 @@ use Rattle.cc_arith.specs.Conversions.{is_zero}
 use Rattle.cc_program.specs.declared.function.FuncId.{FuncId}
 use Rattle.cc_meaning.specs.declared.end.Undef.{Undef}
 use Rattle.cc_meaning.specs.declared.event.Event.{Event}
-use Rattle.cc_meaning.specs.declared.event.Event.TheVariants.{Def, Use}
 use Rattle.cc_store.specs.declared.value.Pointer.{Pointer}
 use Rattle.cc_store.specs.declared.value.Value.{Value}
 use Rattle.cc_store.specs.declared.value.Value.TheVariants.{Unwritten, Int, Null, Function, Points}
-use Rattle.cc_store.specs.Objects.{Object, Live, object_of, read_in, read_cell, write_cell, refused, missing, made, next_pointer, last_object}
+use Rattle.cc_store.specs.Objects.{Object, object_of, read_in, read_cell, write_cell, refused, missing, made, next_pointer, last_object}
 use Rattle.cc_store.specs.Stacks.{if_so, first}
 use Rattle.cc_acts.specs.declared.acts.Filler.{Filler}
 use Rattle.cc_acts.specs.declared.acts.Filler.TheVariants.{Cells as SameCells, Operand}
@@ -21,7 +20,6 @@ use Rattle.cc_acts.specs.declared.frame.Entry.{Entry}
 use Rattle.cc_acts.specs.declared.frame.Frame.{Frame}
 use Rattle.cc_acts.specs.declared.state.State.{State}
 use Rattle.cc_acts.specs.declared.stop.Stop.{Stop}
-use Rattle.cc_acts.specs.declared.stop.Stop.TheVariants.{Lost}
 use Rattle.cc_acts.specs.declared.value_act.Conversion.{Conversion}
 use Rattle.cc_acts.specs.declared.value_act.Gives.{Gives}
 use Rattle.cc_acts.specs.declared.value_act.Gives.TheVariants.{Place, Value as ItsValue, Both, Array, Cells as ItsCells}
@@ -30,10 +28,9 @@ use Rattle.cc_acts.specs.declared.value_act.Operator.TheVariants.{Integers, Plus
 use Rattle.cc_acts.specs.Runs.{Part, ◌>>=◌, ◌>>◌, give, stop}
 use Rattle.cc_acts.specs.Values.{applied, unary_applied, moved, moved_back, part_of, cell_on, is_one_array, change}
 use Rattle.cc_acts.specs.Parts
-use Rattle.cc_record_laws.specs.Past.{leaves}
 use Rattle.cc_record_laws.specs.Orderly.{some_of}
 use Rattle.cc_record_laws.proofs.Exact.{eqb_is}
-use Rattle.cc_orderly_laws.proofs.Numbers.{Numbered, AllHeld}
+use Rattle.cc_orderly_laws.proofs.Numbers.{AllHeld}
 use Rattle.cc_orderly_laws.proofs.Order.{Ordered, InOrder, enter_on, leave_on, Keeps, keeps_on, ends, cell_ended, instances, def_on, use_on, pass_on, ask_on, gone_on, made_in, put_in}
 
 -- what is found among the live objects has not ended

@@ -1,9 +1,8 @@
 -- The machine's steps keep the order.
-use Rattle.std.proofs.Common.{◌≡◌, ℕ, zero, suc, ◌+◌, ℤ, pos, List, [], ◌∷◌, ◌++◌, length, take, drop, inl, inr, Option, Some, None, Bool, true, false, refl, sym, ap, ◌∙◌, subst}
-use Rattle.std.specs.Prelude.{cond, slice_get, ◌⊎◌, ◌&&◌}
+use Rattle.std.proofs.Common.{◌≡◌, ℕ, zero, suc, ◌+◌, pos, List, [], ◌∷◌, take, drop, inl, inr, Option, Some, None, Bool, true, false, refl, subst}
+use Rattle.std.specs.Prelude.{slice_get, ◌⊎◌, ◌&&◌}
 use Rattle.cc_arith.specs.declared.kind.IntKind.{IntKind}
 use Rattle.cc_arith.specs.declared.unary_operator.IntUnary.{IntUnary}
-use Rattle.cc_arith.specs.Conversions.{converted}
 use Rattle.cc_program.specs.declared.function.FuncId.{FuncId}
 use Rattle.cc_meaning.specs.declared.event.Event.{Event}
 use Rattle.cc_store.specs.declared.value.Value.{Value}
@@ -24,7 +23,7 @@ use Rattle.cc_acts.specs.declared.value_act.Named.{Named}
 use Rattle.cc_acts.specs.declared.value_act.Named.TheVariants.{Local, Static}
 use Rattle.cc_acts.specs.declared.value_act.Operator.{Operator}
 use Rattle.cc_acts.specs.declared.value_act.Operator.TheVariants.{Plus}
-use Rattle.cc_acts.specs.Runs.{Part, go_on, ◌>>=◌, ◌>>◌}
+use Rattle.cc_acts.specs.Runs.{Part, ◌>>=◌, ◌>>◌}
 use Rattle.cc_acts.specs.Values.{truth}
 use Rattle.cc_acts.specs.Parts.{taken, inner, write, copy, operate, unary, convert, turn_of, make, fill_all, fill, end_names, enter, leave, result_of, ask}
 use Rattle.cc_acts.specs.Steps
@@ -160,8 +159,8 @@ module _ (G : Acts) (frame : Frame) (callers : List Caller) where
   leads_update_with lvalue occ operator to is_after next under None a b past s o = tt
   leads_update_with lvalue occ operator to is_after next under (Some place) a b past s o =
       leads_then (operate occ operator a b) (λ v. convert to v >>= λ w. Steps.put lvalue occ next frame under callers place.value w (Steps.kept is_after a w)) (calm_operate frame.act (acts_of callers) occ operator a b)
-          (λ v. leads_then (convert to v) (λ w. Steps.put lvalue occ next frame under callers place.value w (Steps.kept is_after a w)) (calm_convert frame.act (acts_of callers) to v) (λ w. leads_put lvalue occ next under place.value w (Steps.kept is_after a w)))
-          past s o
+      (λ v. leads_then (convert to v) (λ w. Steps.put lvalue occ next frame under callers place.value w (Steps.kept is_after a w)) (calm_convert frame.act (acts_of callers) to v) (λ w. leads_put lvalue occ next under place.value w (Steps.kept is_after a w)))
+      past s o
 
   leads_step : (lvalue occ : ℕ) (operator : Operator) (to : Conversion) (is_after : Bool) (next : ℕ) (under : List Entry) (e : Option Entry) (b : Value) → Leads (Steps.step_on lvalue occ operator to is_after next frame under callers e b)
   leads_step lvalue occ operator to is_after next under None b past s o = tt
@@ -221,8 +220,8 @@ module _ (G : Acts) (frame : Frame) (callers : List Caller) where
   leads_init_of : (declarator : ℕ) (to : Conversion) (next : ℕ) (under : List Entry) (v : Option Value) (e : Option Entry) → Leads (Steps.init_of declarator to next frame under callers v e)
   leads_init_of declarator to next under (Some (Points p)) (Some e) past s o =
       leads_then (convert to e.value) (λ v. fill declarator frame.act p v >> Steps.goes next frame under callers) (calm_convert frame.act (acts_of callers) to e.value)
-          (λ v. leads_both (fill declarator frame.act p v) (Steps.goes next frame under callers) (calm_fill frame.act (acts_of callers) declarator p v) (leads_goes next under))
-          past s o
+      (λ v. leads_both (fill declarator frame.act p v) (Steps.goes next frame under callers) (calm_fill frame.act (acts_of callers) declarator p v) (leads_goes next under))
+      past s o
   leads_init_of declarator to next under _ _ past s o = tt
 
   leads_init : (declarator name : ℕ) (to : Conversion) (next : ℕ) (ops : List Entry) → Leads (Steps.init declarator name to next frame ops callers)
@@ -246,7 +245,7 @@ module _ (G : Acts) (frame : Frame) (callers : List Caller) where
   pub entering : (callee : FuncId) (from formals names next : ℕ) (ops : List Entry) (past : List Event) (s : State) → InOrder past (acts_of callers) s → Keeps (Stands G) past (Steps.enter_at G callee from formals names next ops callers s)
   entering callee from formals names next ops past s o =
       keeps_on (λ later f t. InOrder later (f.act ∷ acts_of callers) t) (Stands G) (λ f. Steps.goes next f (drop (formals + 1) ops) callers) (λ later f t q. inl q) past (enter G.formals (Steps.site_of callers) callee from names (args_of formals ops) s)
-          (entered (acts_of callers) G.formals (Steps.site_of callers) callee from names (args_of formals ops) past s o)
+      (entered (acts_of callers) G.formals (Steps.site_of callers) callee from names (args_of formals ops) past s o)
 
 -- back to the last caller, once the activation was left
 back : (G : Acts) (frame : Frame) (ops : List Entry) (callers : List Caller) (past : List Event) (s : State) → InOrder past (acts_of callers) s → Keeps (Stands G) past (Steps.back_to frame ops (rest callers) (first callers) s)

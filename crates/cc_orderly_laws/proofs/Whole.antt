@@ -1,22 +1,21 @@
 -- The run of a test keeps the order.
-use Rattle.std.proofs.Common.{◌≡◌, ℕ, ◌+◌, List, [], ◌∷◌, inr, Option, Some, None, Bool, true, false, refl, sym, ap, ◌∙◌, subst}
+use Rattle.std.proofs.Common.{◌≡◌, ℕ, ◌+◌, List, [], ◌∷◌, inr, Option, Some, None, Bool, true, false, refl, ap, ◌∙◌, subst}
 use Rattle.std.specs.Prelude.{ℤ, slice_get, take, drop}
 use Rattle.cc_meaning.specs.declared.event.Event.{Event}
-use Rattle.cc_meaning.specs.declared.test.Test.{Test}
 use Rattle.cc_meaning.specs.declared.test.TestCall.{TestCall}
 use Rattle.cc_store.specs.declared.value.Value.TheVariants.{Function}
 use Rattle.cc_acts.specs.declared.acts.Acts.{Acts}
 use Rattle.cc_acts.specs.declared.acts.Lasting.{Lasting}
 use Rattle.cc_acts.specs.declared.state.State.{State}
 use Rattle.cc_acts.specs.declared.stop.Stop.{Stop}
-use Rattle.cc_acts.specs.Runs.{Run, events_of, ◌>>◌}
+use Rattle.cc_acts.specs.Runs.{events_of, ◌>>◌}
 use Rattle.cc_acts.specs.Parts.{has_room, with}
-use Rattle.cc_acts.specs.Steps.{Config, At}
+use Rattle.cc_acts.specs.Steps.{At}
 use Rattle.cc_interp.specs.Ran.{prepend, ended}
 use Rattle.cc_interp.specs.Tests.{fresh, make_one_if, make_one, make_lasting, lasting_at, fill_one, fill_lasting, idle, pushed, entry_config, begin, drive_from, run_calls, run}
 use Rattle.cc_record_laws.specs.Orderly.{IsOrderly}
 use Rattle.cc_orderly_laws.specs.Entered.{AreEntered}
-use Rattle.cc_orderly_laws.specs.Runs.{IsRun, most_cells}
+use Rattle.cc_orderly_laws.specs.Runs.{most_cells}
 use Rattle.cc_orderly_laws.specs.Laws.{RunsAreOrderly}
 use Rattle.cc_orderly_laws.proofs.Order.{InOrder, nothing_yet, forgotten, made_in, Keeps, keeps_on, orderly_after}
 use Rattle.cc_orderly_laws.proofs.Parts.{Calm, calm_both, calm_fill_all}
@@ -61,8 +60,8 @@ module _ (G : Acts) where
         let Static : List Event → Unit {0} → State → Type 0 = λ later x t. InOrder later (0 ∷ []) t in
         let s = fresh turns cells answers in
         keeps_on Static Idle (λ _. fill_lasting G 0 G.lasting >> run_calls G steps cs)
-            (λ later x t q. keeps_on Static Idle (λ _. run_calls G steps cs) (λ last y u p. calls steps cs last u (forgotten last 0 [] u.next_act u.store p)) later (fill_lasting G 0 G.lasting t) (calm_filled 0 G.lasting later t q))
-            [] (make_lasting G.lasting s) (calm_lasting G.lasting [] s nothing_yet)
+        (λ later x t q. keeps_on Static Idle (λ _. run_calls G steps cs) (λ last y u p. calls steps cs last u (forgotten last 0 [] u.next_act u.store p)) later (fill_lasting G 0 G.lasting t) (calm_filled 0 G.lasting later t q))
+        [] (make_lasting G.lasting s) (calm_lasting G.lasting [] s nothing_yet)
 
 events_prepended : (es : List Event) (stop : Option Stop) (s : State) → events_of (prepend es (ended stop s)) ≡ es
 events_prepended [] None s = refl
