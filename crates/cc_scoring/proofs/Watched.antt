@@ -9,7 +9,7 @@ use Rattle.cc_acts.specs.declared.stop.Stop.{Stop}
 use Rattle.cc_interp.specs.Tested.{RanTest}
 use Rattle.cc_record.specs.Recording.{Stands}
 use Rattle.cc_record.specs.declared.recorder.Recorder.{Recorder}
-use Rattle.cc_scoring.specs.Runs.{IsRun, most_cells}
+use Rattle.cc_orderly_laws.specs.Runs.{IsRun, most_cells}
 use Rattle.cc_scoring.specs.Watching.{IsReady, StandsFor}
 
 module _ (named : Program → Type 0) where
