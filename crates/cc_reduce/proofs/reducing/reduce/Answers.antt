@@ -9,8 +9,8 @@ pub loop-test-init : goal.loop-test-init
 loop-test-init c =
     let sets = c.args.scores.now.exercised in
     let rows = length c.args.listing.now in
-    let later : c.in_ok-later.later.items ≡ replicate rows false = c.in_ok-later.ensures.items ∙ ap (λ n. replicate n false) c.len-3.ensures in
-    let kept : c.in_ok-kept.kept.items ≡ replicate (length sets) true = c.in_ok-kept.ensures.items ∙ ap (λ n. replicate n true) c.len-4.ensures in
+    let later : c.in_ok-later.later.items ≡ replicate rows false = c.in_ok-later.ensures.items_if_clones_equal (λ y e. e) ∙ ap (λ n. replicate n false) c.len-3.ensures in
+    let kept : c.in_ok-kept.kept.items ≡ replicate (length sets) true = c.in_ok-kept.ensures.items_if_clones_equal (λ y e. e) ∙ ap (λ n. replicate n true) c.len-4.ensures in
     let all : c.len-test.result ≡ length sets = c.len-test.ensures in
     rw all (rw later (rw kept (looked_init sets rows)))
 
