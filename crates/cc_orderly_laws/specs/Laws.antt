@@ -8,7 +8,7 @@ use Rattle.cc_record_laws.specs.Orderly.{IsOrderly}
 use Rattle.cc_orderly_laws.specs.Entered.{AreEntered}
 use Rattle.cc_orderly_laws.specs.Runs.{IsRun}
 
--- Where the entries of functions enter them, the events of each run are orderly: nothing of an activation comes after its
--- end, no cell is read after its object's end, and no activation is entered twice.
+-- Where what stands at the entry of each function enters it, the events of each run are orderly: nothing of an activation
+-- comes after its end, no cell is read after its object's end, and no activation is entered twice.
 abbrev pub RunsAreOrderly : Type 0
 RunsAreOrderly = (G : Acts) (test : Test) (events : List Event) (stop : Option Stop) → AreEntered G → IsRun G test events stop → IsOrderly events
