@@ -18,4 +18,5 @@ of_justify justify.Memory = fault.Memory
 
 abbrev pub of_score : ScoreFault → ReportFault
 of_score score.Lost = fault.Lost
+of_score score.Unfit = fault.Unfit
 of_score score.Memory = fault.Memory

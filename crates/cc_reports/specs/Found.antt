@@ -12,6 +12,7 @@ use Rattle.cc_meaning.specs.declared.test.Test.{Test}
 use Rattle.cc_program.specs.declared.program.Program.{Program}
 use Rattle.cc_score.specs.Conflicts.{Clashes, IsLeast}
 use Rattle.cc_score.specs.declared.clash.Conflict.{Conflict}
+use Rattle.cc_scoring.specs.Fit.{IsUnfit}
 use Rattle.cc_scoring.specs.Runs.{AnyIsLost}
 use Rattle.cc_scoring.specs.Scored.{IsScored}
 use Rattle.cc_tables.specs.Justifying as justifying
@@ -43,6 +44,10 @@ AreScores P rows tests scores = (acts : Acts) × IsScored P acts rows tests scor
 -- the machine is lost in a test's run over the acts of the program
 abbrev pub IsAstray : List Test → Type 0
 IsAstray tests = (acts : Acts) × AnyIsLost acts tests
+
+-- the program, or acts over which it would be run, are not as a recorder needs them
+abbrev pub IsUnfitted : Program → Type 0
+IsUnfitted P = (acts : Acts) × IsUnfit P acts
 
 -- of the rows that have a reason and a mark it is the one with the least justification, and of these the least
 abbrev pub IsConflict : (marks : List (Option ℕ)) → Option (List (Option RowReason)) → Conflict → Type 0

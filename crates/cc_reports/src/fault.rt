@@ -17,8 +17,11 @@ pub enum ReportFault {
     NoSuchRow { index: u32 },
     /// A test exercises a row that is justified: of these the one whose justification is the least, and of such rows the least.
     Covered(Conflict),
-    /// A run of a test went astray: that this can't come is not proved.
+    /// The machine is lost in the run of a test: that this can't come is not proved.
     Lost,
+    /// Runs can't be watched, as a component is past the first 64, or a function begins without its entry: that this can't come
+    /// is not proved.
+    Unfit,
     /// Memory was wanting. No clause says when.
     Memory,
 }
@@ -82,6 +85,7 @@ impl From<ScoreFault> for ReportFault {
     fn from(fault: ScoreFault) -> ReportFault {
         match fault {
             ScoreFault::Lost => ReportFault::Lost,
+            ScoreFault::Unfit => ReportFault::Unfit,
             ScoreFault::Memory => ReportFault::Memory,
         }
     }

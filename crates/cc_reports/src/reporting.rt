@@ -46,7 +46,8 @@ fn reported(
 /// # Errors
 ///
 /// The first that comes: the program has no listing; a justification's line is no row's text, which is judged before the tests
-/// are run; the machine is lost in a test's run (`Lost`: that this can't come is not proved); a test exercises a justified row.
+/// are run; runs can't be watched (`Unfit`), or the machine is lost in one (`Lost`): that these can't come is not proved; a test
+/// exercises a justified row.
 /// `Memory` may come for any program.
 pub fn report(
     alloc: Global,

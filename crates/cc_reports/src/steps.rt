@@ -5,7 +5,7 @@ ghost use Rattle.cc_graph.specs.Graphs.{IsGraph};
 ghost use Rattle.cc_listing.specs.Answers.{RefusedWhole};
 ghost use Rattle.cc_listing.specs.Faults as faults;
 ghost use Rattle.cc_program.specs.Programs.{number_of};
-ghost use Rattle.cc_scoring.specs.declared.fault.ScoreFault.TheVariants.{Lost};
+ghost use Rattle.cc_scoring.specs.declared.fault.ScoreFault.TheVariants.{Lost, Unfit};
 ghost use Rattle.cc_tables.specs.declared.justified.JustifyFault.TheVariants.{NoSuchRow};
 ghost use Rattle.cc_reports.specs.Found as spec;
 
@@ -95,6 +95,7 @@ pub fn scores_of(
 ) -> Result<Scores, ScoreFault>
     ensures scored { IfOk result (λ scores. spec.AreScores program.now listed.now.listing tests.now scores) }
     ensures lost { IfErr result (λ fault. fault ≡ Lost → spec.IsAstray tests.now) }
+    ensures unfit { IfErr result (λ fault. fault ≡ Unfit → spec.IsUnfitted program.now) }
 {
     match acts_of(alloc, program, &listed.graph) {
         Ok(acts) => score(alloc, program, &acts, &listed.listing, tests),

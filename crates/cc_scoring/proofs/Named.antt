@@ -1,5 +1,5 @@
 -- A mark names the first test.
-use Rattle.std.proofs.Common.{◌≡◌, ℕ, zero, suc, ◌+◌, ◌<◌, ⊎_elim, List, [], ◌∷◌, ◌++◌, Option, Some, None, Bool, true, false, length, get_or, refl, ap, sym, ◌∙◌, subst, arith}
+use Rattle.std.proofs.Common.{◌≡◌, ℕ, zero, suc, ◌+◌, ◌<◌, ⊎_elim, List, [], ◌∷◌, Option, Some, None, Bool, true, false, length, refl, ap, sym, ◌∙◌, subst, arith}
 use Rattle.std.specs.Prelude.{Contains, slice_get}
 use Rattle.std.proofs.lemmas.Bool.{cases_eq, eqb-true, eq-eqb, or_cases, or_left, or_right, true≢false}
 use Rattle.std.proofs.lemmas.List.{length_push}
@@ -15,14 +15,13 @@ use Rattle.cc_acts.specs.declared.stop.Stop.{Stop}
 use Rattle.cc_acts.specs.Runs.{events_of}
 use Rattle.cc_interp.specs.Ran.{prepend, ended}
 use Rattle.cc_interp.specs.Tests.{fresh, run}
-use Rattle.cc_record.specs.Recording.{AreFew}
 use Rattle.cc_record.specs.Roles.{roles_of}
 use Rattle.cc_record_laws.specs.Exercised.{Exercised}
 use Rattle.cc_score.specs.Any.{any_to}
 use Rattle.cc_score.specs.Firsts.{exercises, first_to, has_to, is_row, marks_to, or_test}
-use Rattle.cc_scoring.specs.Firsts.{AreOrderly, Exercises, IsMark, MarksNameFirst}
-use Rattle.cc_scoring.specs.Runs.{IsRun, most_cells}
-use Rattle.cc_scoring.specs.Scored.{AreScored, IsOfTest, IsScored}
+use Rattle.cc_scoring.specs.Firsts.{Exercises, IsMark, MarksNameFirst}
+use Rattle.cc_orderly_laws.specs.Runs.{IsRun, most_cells}
+use Rattle.cc_scoring.specs.Scored.{IsScored}
 use Rattle.cc_scoring.proofs.Places.{at_push, before_push}
 
 -- ---- a test has one run
@@ -106,7 +105,7 @@ marks_at sets (suc n) r lt =
 
 -- ---- what a mark says
 
-module _ (P : Program) (G : Acts) (rows : List Coupling) (tests : List Test) (scores : Scores) (few : AreFew (roles_of P)) (orderly : AreOrderly G tests) (scored : IsScored P G rows tests scores)
+module _ (P : Program) (G : Acts) (rows : List Coupling) (tests : List Test) (scores : Scores) (scored : IsScored P G rows tests scores)
     (r : ℕ) (q : Coupling) (at : slice_get rows r ≡ Some q) where
   -- a test that has the row exercises it
   exercises_now : (t : ℕ) → t < length tests → exercises (slice_get scores.exercised t) r ≡ true → Exercises P G tests q t
@@ -120,7 +119,7 @@ module _ (P : Program) (G : Acts) (rows : List Coupling) (tests : List Test) (sc
         stop = run.stop;
         test_at = w.test_at;
         is_run = run.is_run;
-        exercised = (run.is_set.exact few (orderly t w.test run.events run.stop w.test_at run.is_run) r q at).0 (contains_from_has w.set r has);
+        exercised = (run.is_set.exact r q at).0 (contains_from_has w.set r has);
       }
 
   -- a test that has not the row does not exercise it
@@ -132,7 +131,7 @@ module _ (P : Program) (G : Acts) (rows : List Coupling) (tests : List Test) (sc
       let mine : IsRun G w.test x.events x.stop = subst (λ (t : Test). IsRun G t x.events x.stop) test x.is_run in
       let events : x.events ≡ run.events = one_run G w.test x.events run.events x.stop run.stop mine run.is_run in
       let exercised : Exercised (roles_of P) run.events q = subst (λ (es : List Event). Exercised (roles_of P) es q) events x.exercised in
-      let has = has_from_contains w.set r ((run.is_set.exact few (orderly t w.test run.events run.stop w.test_at run.is_run) r q at).1 exercised) in
+      let has = has_from_contains w.set r ((run.is_set.exact r q at).1 exercised) in
       true≢false (sym has ∙ (ap (λ o. exercises o r) (sym w.set_at) ∙ e))
 
   mark_is : (m : Option ℕ) → first_to scores.exercised r (length scores.exercised) ≡ m → IsMark P G tests q m
@@ -152,4 +151,4 @@ module _ (P : Program) (G : Acts) (rows : List Coupling) (tests : List Test) (sc
       (first, ap (λ l. slice_get l r) scored.marks ∙ marks_at scores.exercised (length rows) r (slice_get_within rows r q at), mark_is first refl)
 
 pub marks_name_first : MarksNameFirst
-marks_name_first P G rows tests scores few orderly scored r q at = named P G rows tests scores few orderly scored r q at
+marks_name_first P G rows tests scores scored r q at = named P G rows tests scores scored r q at

@@ -1,12 +1,11 @@
 -- One row more.
-use Rattle.std.proofs.Common.{◌≡◌, ℕ, ◌+◌, ◌<◌, ⊎_elim, List, [], ◌∷◌, ◌++◌, Some, length, get_or, refl, ap, sym, ◌∙◌, subst, arith}
+use Rattle.std.proofs.Common.{◌≡◌, ℕ, ◌+◌, ◌<◌, ⊎_elim, List, [], ◌∷◌, ◌++◌, Some, length, get_or, ap, sym, ◌∙◌, subst, arith}
 use Rattle.std.specs.Prelude.{◌↔◌, Contains, slice_get}
 use Rattle.std.specs.List.Sorted.{IsStrictlyIncreasing}
 use Rattle.std.proofs.lemmas.Bool.{cases_eq}
 use Rattle.std.proofs.lemmas.List.{length_push, get_or_append_left, get_or_push}
 use Rattle.std.proofs.lemmas.List.Elements.{Contains-append_left, Contains-get_or, Contains-push, Contains-push_cases}
 use Rattle.std.proofs.lemmas.Option.{same_Some, slice_get_within}
-use Rattle.cc_program.specs.declared.program.Program.{Program}
 use Rattle.cc_meaning.specs.declared.coupling.Coupling.{Coupling}
 use Rattle.cc_scoring.specs.Scored.{AreRows}
 
@@ -49,10 +48,12 @@ module _ (rows : List Coupling) (holds : Coupling → Type 0) where
       this r q here same =
           let is : row ≡ q = same_Some row q (sym at ∙ (ap (slice_get rows) (sym same) ∙ here)) in
           (λ _. subst holds is h, λ _. subst (Contains (set ++ count ∷ [])) (sym same) (Contains-push set count))
+
       earlier : (r : ℕ) (q : Coupling) → slice_get rows r ≡ Some q → r < count → Contains (set ++ count ∷ []) r ↔ holds q
-      earlier r q here lt =
-          (λ c. ⊎_elim (λ old. (before.exact r q here lt).0 old) (λ new. absurd (omega arith)) (Contains-push_cases set count r c),
-          λ x. Contains-append_left set (count ∷ []) r ((before.exact r q here lt).1 x))
+      earlier r q here lt = (
+        λ c. ⊎_elim (λ old. (before.exact r q here lt).0 old) (λ new. absurd (omega arith)) (Contains-push_cases set count r c),
+        λ x. Contains-append_left set (count ∷ []) r ((before.exact r q here lt).1 x),
+      )
 
   without_row : (set : List ℕ) (count : ℕ) (row : Coupling) → slice_get rows count ≡ Some row → (holds row → ⊥) → AreRowsTo rows holds set count → AreRowsTo rows holds set (count + 1)
   without_row set count row at lacks before = record {

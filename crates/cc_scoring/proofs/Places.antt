@@ -1,5 +1,5 @@
 -- Items of a list that has grown at its end.
-use Rattle.std.proofs.Common.{◌≡◌, ℕ, zero, suc, ◌<◌, List, [], ◌∷◌, ◌++◌, Option, Some, length, refl, ap, sym, ◌∙◌, arith}
+use Rattle.std.proofs.Common.{◌≡◌, ℕ, zero, suc, ◌<◌, List, [], ◌∷◌, ◌++◌, Some, length, refl, arith}
 use Rattle.std.specs.Prelude.{slice_get}
 
 module _ {A : Type 0} where

@@ -1,5 +1,5 @@
 -- One test more.
-use Rattle.std.proofs.Common.{◌≡◌, ℕ, ◌+◌, ◌<◌, ⊎_elim, List, [], ◌∷◌, ◌++◌, Option, Some, length, refl, ap, sym, ◌∙◌, subst, arith}
+use Rattle.std.proofs.Common.{◌≡◌, ℕ, ◌+◌, ◌<◌, ⊎_elim, List, [], ◌∷◌, ◌++◌, Some, refl, ap, sym, ◌∙◌, arith}
 use Rattle.std.specs.Prelude.{◌↔◌, Contains, slice_get}
 use Rattle.std.proofs.lemmas.Bool.{cases_eq}
 use Rattle.std.proofs.lemmas.List.{length_push}
@@ -9,21 +9,18 @@ use Rattle.cc_meaning.specs.declared.end.End.{End}
 use Rattle.cc_meaning.specs.declared.event.Event.{Event}
 use Rattle.cc_meaning.specs.declared.test.Test.{Test}
 use Rattle.cc_acts.specs.declared.acts.Acts.{Acts}
-use Rattle.cc_record.specs.Recording.{AreFew}
 use Rattle.cc_record.specs.Roles.{roles_of}
 use Rattle.cc_record_laws.specs.Exercised.{Exercised}
-use Rattle.cc_record_laws.specs.Orderly.{IsOrderly}
 use Rattle.cc_scoring.specs.Scored.{AreRows, AreScored, IsOfRun, IsOfTest, IsRowSet}
 use Rattle.cc_scoring.proofs.Places.{at_push, before_push}
 
 -- the rows of what a recorder has seen
 pub row_set : (P : Program) (rows : List Coupling) (events : List Event) (seen : List Coupling) (set : List ℕ) → AreRows rows (λ row. Contains seen row) set
-    → (AreFew (roles_of P) → IsOrderly events → (q : Coupling) → Contains seen q ↔ Exercised (roles_of P) events q) → IsRowSet P rows events set
+    → ((q : Coupling) → Contains seen q ↔ Exercised (roles_of P) events q) → IsRowSet P rows events set
 row_set P rows events seen set are exact = record {
   ascending = are.ascending;
   below = are.below;
-  exact = λ few orderly r row at.
-      (λ c. (exact few orderly row).0 ((are.exact r row at).0 c), λ x. (are.exact r row at).1 ((exact few orderly row).1 x));
+  exact = λ r row at. (λ c. (exact row).0 ((are.exact r row at).0 c), λ x. (are.exact r row at).1 ((exact row).1 x));
 }
 
 module _ (P : Program) (G : Acts) (rows : List Coupling) (tests : List Test) where
@@ -48,6 +45,7 @@ module _ (P : Program) (G : Acts) (rows : List Coupling) (tests : List Test) whe
         end_at = at_push ends «end» t (same ∙ sym before.ends_length);
         is_of_run = is;
       }
+
       earlier : (t : ℕ) → t < count → IsOfTest P G rows tests (sets ++ set ∷ []) (ends ++ «end» ∷ []) t
       earlier t lt =
           let w = before.each t lt in

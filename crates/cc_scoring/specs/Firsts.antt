@@ -7,11 +7,9 @@ use Rattle.cc_meaning.specs.declared.score.Scores.{Scores}
 use Rattle.cc_meaning.specs.declared.test.Test.{Test}
 use Rattle.cc_acts.specs.declared.acts.Acts.{Acts}
 use Rattle.cc_acts.specs.declared.stop.Stop.{Stop}
-use Rattle.cc_record.specs.Recording.{AreFew}
+use Rattle.cc_orderly_laws.specs.Runs.{IsRun}
 use Rattle.cc_record.specs.Roles.{roles_of}
 use Rattle.cc_record_laws.specs.Exercised.{Exercised}
-use Rattle.cc_record_laws.specs.Orderly.{IsOrderly}
-use Rattle.cc_scoring.specs.Runs.{IsRun}
 use Rattle.cc_scoring.specs.Scored.{IsScored}
 
 -- The run of the test of this number exercises the coupling.
@@ -23,16 +21,12 @@ pub record Exercises (P : Program) (G : Acts) (tests : List Test) (q : Coupling)
   pub is_run : IsRun G test events stop
   pub exercised : Exercised (roles_of P) events q
 
--- the events of each test's run are orderly
-abbrev pub AreOrderly : Acts → List Test → Type 0
-AreOrderly G tests = (t : ℕ) (test : Test) (events : List Event) (stop : Option Stop) → slice_get tests t ≡ Some test → IsRun G test events stop → IsOrderly events
-
 -- the mark names the least test whose run exercises the coupling; without a mark no test's run does
 abbrev pub IsMark : Program → Acts → List Test → Coupling → Option ℕ → Type 0
 IsMark P G tests q (Some t) = Exercises P G tests q t × ((s : ℕ) → s < t → Exercises P G tests q s → ⊥)
 IsMark P G tests q None = (t : ℕ) → Exercises P G tests q t → ⊥
 
--- Where components are few and the events of the runs orderly, each row has the mark of its coupling.
+-- Each row has the mark of its coupling.
 abbrev pub MarksNameFirst : Type 0
-MarksNameFirst = (P : Program) (G : Acts) (rows : List Coupling) (tests : List Test) (scores : Scores) → AreFew (roles_of P) → AreOrderly G tests → IsScored P G rows tests scores
+MarksNameFirst = (P : Program) (G : Acts) (rows : List Coupling) (tests : List Test) (scores : Scores) → IsScored P G rows tests scores
     → (r : ℕ) (q : Coupling) → slice_get rows r ≡ Some q → (mark : Option ℕ) × (slice_get scores.marks r ≡ Some mark) × IsMark P G tests q mark

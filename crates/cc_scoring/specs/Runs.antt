@@ -1,25 +1,13 @@
--- The run of a test, and its end.
-use Rattle.std.specs.Prelude.{◌≡◌, ℕ, ◌+◌, List, Option, Some, None, slice_get}
+-- The end of a test's run.
+use Rattle.std.specs.Prelude.{◌≡◌, ℕ, List, Option, Some, None, slice_get}
 use Rattle.cc_meaning.specs.declared.end.End.{End}
 use Rattle.cc_meaning.specs.declared.end.End.TheVariants as «end»
 use Rattle.cc_meaning.specs.declared.event.Event.{Event}
 use Rattle.cc_meaning.specs.declared.test.Test.{Test}
 use Rattle.cc_acts.specs.declared.acts.Acts.{Acts}
-use Rattle.cc_acts.specs.declared.state.State.{State}
 use Rattle.cc_acts.specs.declared.stop.Stop.{Stop}
 use Rattle.cc_acts.specs.declared.stop.Stop.TheVariants.{Undefined, TurnsOut, CellsOut, EnvDry, Lost}
-use Rattle.cc_interp.specs.Ran.{prepend, ended}
-use Rattle.cc_interp.specs.Tests.{fresh, run}
-
--- a run has so many cells at most at any moment
-abbrev pub most_cells : ℕ
-most_cells = 1048576
-
--- With so many steps, and with any more, the run of the test over the acts is these events; then it stops so, or is done.
-pub record IsRun (G : Acts) (test : Test) (events : List Event) (stop : Option Stop) : Type 0 where
-  pub last : State
-  pub steps : ℕ
-  pub run_is : (more : ℕ) → run G (steps + more) test.calls (fresh test.turns most_cells test.answers) ≡ prepend events (ended stop last)
+use Rattle.cc_orderly_laws.specs.Runs.{IsRun}
 
 -- the end of a run that stops so, or is done; where the machine was lost there is none
 abbrev pub end_of : Option Stop → Option End

@@ -9,12 +9,11 @@ use Rattle.cc_meaning.specs.declared.score.Scores.{Scores}
 use Rattle.cc_meaning.specs.declared.test.Test.{Test}
 use Rattle.cc_acts.specs.declared.acts.Acts.{Acts}
 use Rattle.cc_acts.specs.declared.stop.Stop.{Stop}
-use Rattle.cc_record.specs.Recording.{AreFew}
 use Rattle.cc_record.specs.Roles.{roles_of}
 use Rattle.cc_record_laws.specs.Exercised.{Exercised}
-use Rattle.cc_record_laws.specs.Orderly.{IsOrderly}
 use Rattle.cc_score.specs.Firsts.{marks_to}
-use Rattle.cc_scoring.specs.Runs.{IsRun, end_of}
+use Rattle.cc_orderly_laws.specs.Runs.{IsRun}
+use Rattle.cc_scoring.specs.Runs.{end_of}
 
 -- The set has, ascending, the numbers of those rows of which this holds.
 pub record AreRows (rows : List Coupling) (holds : Coupling → Type 0) (set : List ℕ) : Type 0 where
@@ -22,12 +21,9 @@ pub record AreRows (rows : List Coupling) (holds : Coupling → Type 0) (set : L
   pub below : (r : ℕ) → Contains set r → r < length rows
   pub exact : (r : ℕ) (row : Coupling) → slice_get rows r ≡ Some row → Contains set r ↔ holds row
 
--- The set has, ascending, numbers of rows. Where components are few and the events orderly, these are the numbers of just
--- those rows that the events exercise.
-pub record IsRowSet (P : Program) (rows : List Coupling) (events : List Event) (set : List ℕ) : Type 0 where
-  pub ascending : IsStrictlyIncreasing set
-  pub below : (r : ℕ) → Contains set r → r < length rows
-  pub exact : AreFew (roles_of P) → IsOrderly events → (r : ℕ) (row : Coupling) → slice_get rows r ≡ Some row → Contains set r ↔ Exercised (roles_of P) events row
+-- the set has, ascending, the numbers of just those rows that the events exercise
+abbrev pub IsRowSet : Program → List Coupling → List Event → List ℕ → Type 0
+IsRowSet P rows events set = AreRows rows (λ row. Exercised (roles_of P) events row) set
 
 -- The set and the end are those of the test's run.
 pub record IsOfRun (P : Program) (G : Acts) (rows : List Coupling) (test : Test) (set : List ℕ) («end» : End) : Type 0 where

@@ -6,6 +6,9 @@ use cc_base::Memory;
 pub enum ScoreFault {
     /// The machine was lost at an act of a test's run: that this can't come is not proved.
     Lost,
+    /// A file is of a component past the first 64, or no act that enters stands where a function begins, so that a recorder
+    /// might be wrong: that this can't come is not proved.
+    Unfit,
     /// Memory was wanting, or there are 2^32 tests or more. No clause says when.
     Memory,
 }

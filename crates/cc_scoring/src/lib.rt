@@ -2,7 +2,7 @@
 //!
 //! [`score`] runs each test over the acts of the program with a recorder as watcher, and gives for each test the rows that its
 //! run exercises and the end of the run, and for each row the first test that has it. What scores are is said in
-//! `specs/Scored.antt`, the run of a test in `specs/Runs.antt`. [`first_marks`] carries the law that says what a mark is
+//! `specs/Scored.antt`, the run of a test in `specs/Runs.antt` of `cc_orderly_laws`. [`first_marks`] carries the law that says what a mark is
 //! (`specs/Firsts.antt`).
 #![tactic(auto)]
 
@@ -10,6 +10,7 @@ ghost use Rattle.cc_scoring.specs.Firsts.{MarksNameFirst};
 
 mod ends;
 mod fault;
+mod fit;
 mod rows;
 mod scoring;
 mod watching;
@@ -17,8 +18,7 @@ mod watching;
 pub use fault::ScoreFault;
 pub use scoring::score;
 
-/// Where components are few and runs orderly, the mark of a row names the least test whose run exercises the row, and a row
-/// has no mark exactly where no test's run does.
+/// The mark of a row names the least test whose run exercises the row, and a row has no mark exactly where no test's run does.
 pub fn first_marks()
     ensures { MarksNameFirst }
 {}

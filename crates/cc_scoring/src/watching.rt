@@ -2,7 +2,7 @@
 ghost use Rattle.std.specs.Prelude.{◌≡◌, IfOk, List};
 ghost use Rattle.cc_meaning.specs.declared.event.Event.{Event};
 ghost use Rattle.cc_program.specs.declared.program.Program.{Program};
-ghost use Rattle.cc_scoring.specs.Runs.{IsRun};
+ghost use Rattle.cc_orderly_laws.specs.Runs.{IsRun};
 ghost use Rattle.cc_scoring.specs.Watching.{IsReady, StandsFor};
 
 use cc_acts::{Acts, Stop};

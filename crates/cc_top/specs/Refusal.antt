@@ -80,6 +80,7 @@ covered_line name index row test =
 abbrev pub internal_text : Inner → List ℕ
 internal_text inner.Number = codes "a number without a name"
 internal_text inner.Machine = codes "the machine is lost"
+internal_text inner.Watched = codes "runs can't be watched"
 internal_text inner.Generated = codes "a generated file can't be read"
 
 abbrev pub internal_line : Inner → List ℕ

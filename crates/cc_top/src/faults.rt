@@ -191,6 +191,7 @@ fn of_report_fault(
         ReportFault::NoSuchRow { index } => no_such_row(alloc, name, index),
         ReportFault::Covered(conflict) => covered(alloc, name, tests, conflict),
         ReportFault::Lost => Ok(Refusal::Internal(Internal::Machine)),
+        ReportFault::Unfit => Ok(Refusal::Internal(Internal::Watched)),
         ReportFault::Memory => Ok(Refusal::Memory),
     }
 }

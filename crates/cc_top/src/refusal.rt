@@ -21,6 +21,8 @@ pub enum Internal {
     Number,
     /// The machine that runs the tests was lost.
     Machine,
+    /// The runs of the tests can't be watched.
+    Watched,
     /// A file of a generated project can't be read.
     Generated,
 }
@@ -171,6 +173,7 @@ impl Internal {
         match self {
             Internal::Number => "a number without a name",
             Internal::Machine => "the machine is lost",
+            Internal::Watched => "runs can't be watched",
             Internal::Generated => "a generated file can't be read",
         }
     }
