@@ -48,6 +48,10 @@ const SENSOR_TESTS: &str =
 const SENSOR_PAIRS: &str =
     "from,to,call,call_covered,shared,shared_covered,parameter,parameter_covered,return,return_covered\nSensor,Control,1,1,3,2,1,1,0,0\nControl,Sensor,2,2,0,0,2,2,0,0\n";
 
+const SENSOR_REDUCED: &str = "test,kept,rows\nT1,yes,8\nT2,no,3\nkept 1 of 2\n";
+
+const SENSOR_ORDERED: &str = "place,test,new,total\n1,T1,8,8\n2,T2,0,8\n";
+
 // Each macro has the one before twice: the last stands for 2^21 tokens.
 const DOUBLING: &str =
     "#define A x\n#define B A A\n#define C B B\n#define D C C\n#define E D D\n#define F E E\n#define G F F\n#define H G G\n#define I H H\n#define J I I\n#define K J J\n#define L K K\n#define M L L\n#define N M M\n#define O N N\n#define P O O\n#define Q P P\n#define R Q Q\n#define S R R\n#define T S S\n#define U T T\n#define V U U\nint V;\n";
@@ -338,6 +342,8 @@ fn reports(rt: HostRuntime) -> Result<(), Fail> {
         ("score", SENSOR_SCORE, 1),
         ("tests", SENSOR_TESTS, 0),
         ("pairs", SENSOR_PAIRS, 0),
+        ("reduce", SENSOR_REDUCED, 0),
+        ("order", SENSOR_ORDERED, 0),
     ];
     for (word, out, status) in cases {
         assert!(rt;
