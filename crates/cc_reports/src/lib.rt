@@ -1,4 +1,4 @@
-//! From a linked program and its tests to what `score`, `tests`, `pairs` and `gen` print.
+//! From a linked program and its tests to what `score`, `tests`, `pairs`, `reduce`, `order` and `gen` print.
 //!
 //! [`report`] lists the couplings of the program, finds the rows that are justified, runs the tests, and makes the text. It
 //! refuses where there is no listing ([`ReportFault::List`]), where a justification speaks of no row
