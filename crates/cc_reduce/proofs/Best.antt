@@ -1,25 +1,17 @@
 -- The test that adds most, and the order so far.
 use Rattle.std.proofs.Common.{◌≡◌, ◌≢◌, ℕ, zero, suc, ◌+◌, ◌<◌, ◌≤◌, ◌⊎◌, inl, inr, ⊎_elim, List, [], ◌∷◌, ◌++◌, Option, Some, None, Bool, true, false, cond, length, get_or, replicate, set, take, refl, ap, sym, ◌∙◌, subst, arith, get_or-set_other, get_or-set_same, length-append, length-set}
 use Rattle.std.specs.Prelude.{slice_get, nat_eq, nat_lt, not, ◌&&◌, ◌||◌}
-use Rattle.std.specs.List.Sorted.{IsStrictlyIncreasing}
 use Rattle.std.proofs.lemmas.Bool.{true≢false, cases_eq, cases_lt, eq-eqb, ltb-false, ltb-true, ne_eqb}
 use Rattle.std.proofs.lemmas.List.{get_or-replicate, length-replicate, take-append-le, take_all}
 use Rattle.std.proofs.lemmas.Option.{slice_get_within}
 use Rattle.cc_score.specs.Firsts.{exercises}
 use Rattle.cc_tables.specs.TestTable.{rows_or}
 use Rattle.cc_reduce.specs.declared.ordering.Gain.{Gain}
-use Rattle.cc_reduce.specs.Ordered.{AreAscending, IsBest, IsOrder, added, better, is_among, uncovered}
+use Rattle.cc_reduce.specs.Ordered.{IsBest, IsOrder, added, better, is_among, uncovered}
 use Rattle.cc_reduce.specs.Rows.{at, count_to, covers, has}
 use Rattle.cc_reduce.proofs.Counts.{count_one, count_same}
 use Rattle.cc_reduce.proofs.Places.{at_push, before_push}
 use Rattle.cc_reduce.proofs.Tests.{rows_or_none}
-
-pub ascending_at : (sets : List (List ℕ)) (test : ℕ) → AreAscending sets → IsStrictlyIncreasing (rows_or (slice_get sets test))
-ascending_at sets test up = go (slice_get sets test) refl
-  where
-    go : (o : Option (List ℕ)) → slice_get sets test ≡ o → IsStrictlyIncreasing (rows_or o)
-    go (Some set) e = up test set e
-    go None e = λ k lt. absurd (omega arith)
 
 module _ (adds : ℕ → ℕ) (taken : ℕ → Bool) where
   -- of the first tests that are not taken it is the best, if there is one
@@ -32,24 +24,29 @@ module _ (adds : ℕ → ℕ) (taken : ℕ → Bool) where
 
   pub best_taken : (count : ℕ) (best : Option Gain) → taken count ≡ true → BestTo count best → BestTo (count + 1) best
   best_taken count (Some gain) on b =
-      let best = b.1 in
-      (b.0, record {
-        within = (let lt = best.within in omega arith);
-        is_free = best.is_free;
-        most = λ other lt free. ⊎_elim (λ before. best.most other before free)
-            (λ after. let same : other ≡ count = omega arith in absurd (true≢false (sym on ∙ (sym (ap taken same) ∙ free)))) (cases_lt other count);
-      })
+      let best = b.1 in (
+        b.0,
+        record {
+          within = (let lt = best.within in omega arith);
+          is_free = best.is_free;
+          most = λ other lt free. ⊎_elim (λ before. best.most other before free)
+              (λ after. let same : other ≡ count = omega arith in absurd (true≢false (sym on ∙ (sym (ap taken same) ∙ free)))) (cases_lt other count);
+        },
+      )
   best_taken count None on b =
       λ test lt. ⊎_elim (λ before. b test before) (λ after. let same : test ≡ count = omega arith in ap taken same ∙ on) (cases_lt test count)
 
   -- the test beats all before it
   turns : (count gain : ℕ) → taken count ≡ false → gain ≡ adds count → ((other : ℕ) → other < count → taken other ≡ false → adds other < adds count)
       → BestTo (count + 1) (Some (record { test = count; added = gain }))
-  turns count gain off is less = (is, record {
-    within = omega arith;
-    is_free = off;
-    most = λ other lt free. ⊎_elim (λ before. inl (less other before free)) (λ after. let same : other ≡ count = omega arith in inr (ap adds same, omega arith)) (cases_lt other count);
-  })
+  turns count gain off is less = (
+    is,
+    record {
+      within = omega arith;
+      is_free = off;
+      most = λ other lt free. ⊎_elim (λ before. inl (less other before free)) (λ after. let same : other ≡ count = omega arith in inr (ap adds same, omega arith)) (cases_lt other count);
+    },
+  )
 
   pub best_free : (count gain : ℕ) (best : Option Gain) → taken count ≡ false → gain ≡ adds count → BestTo count best
       → BestTo (count + 1) (Some (better best (record { test = count; added = gain })))
@@ -66,17 +63,19 @@ module _ (adds : ℕ → ℕ) (taken : ℕ → Bool) where
           let least = ltb-false old.added gain e in
           let was = b.0 in
           let best = b.1 in
-          let within = best.within in
-          (b.0, record {
-            within = omega arith;
-            is_free = best.is_free;
-            most = λ other lt free. ⊎_elim (λ before. best.most other before free)
-                (λ after.
-                let same : other ≡ count = omega arith in
-                let same_adds : adds other ≡ adds count = ap adds same in
-                ⊎_elim (λ less. inl less) (λ ge. inr (omega arith, omega arith)) (cases_lt (adds other) (adds old.test)))
-                (cases_lt other count);
-          })
+          let within = best.within in (
+            b.0,
+            record {
+              within = omega arith;
+              is_free = best.is_free;
+              most = λ other lt free. ⊎_elim (λ before. best.most other before free)
+                  (λ after.
+                  let same : other ≡ count = omega arith in
+                  let same_adds : adds other ≡ adds count = ap adds same in
+                  ⊎_elim (λ less. inl less) (λ ge. inr (omega arith, omega arith)) (cases_lt (adds other) (adds old.test)))
+                  (cases_lt other count);
+            },
+          )
 
 best_same : (f g : ℕ → ℕ) (t u : ℕ → Bool) (count test : ℕ) → ((j : ℕ) → f j ≡ g j) → ((j : ℕ) → j < count → t j ≡ u j) → IsBest f t count test → IsBest g u count test
 best_same f g t u count test same_adds same_taken b =
@@ -134,7 +133,7 @@ module _ (sets : List (List ℕ)) (rows : ℕ) where
     adds_same test =
         ap (λ n. count_to (λ row. has sets test row && not (at covered row)) n) t.wide
         ∙ count_same (λ row. has sets test row && not (at covered row)) (λ row. has sets test row && not (covers sets order row)) rows
-            (λ row lt. ap (λ b. has sets test row && not b) (t.marks row lt))
+        (λ row lt. ap (λ b. has sets test row && not b) (t.marks row lt))
 
     pub next : (test : ℕ) → IsBest (uncovered sets covered) (at taken) (length taken) test → IsBest (added sets rows order) (is_among order) (length sets) test
     next test b =
@@ -160,14 +159,14 @@ module _ (sets : List (List ℕ)) (rows : ℕ) where
               ∙ (ap (λ c. c || has sets test row) (t.marks row lt) ∙ sym (covers_push sets order test row)));
           among = λ other lt. ⊎_elim
               (λ e. subst (λ (o : ℕ). at (set taken test true) o ≡ is_among (order ++ test ∷ []) o) (sym e)
-                  (get_or-set_same taken test true false b.within
-                  ∙ sym (among_push order test test ∙ (ap (λ c. is_among order test || c) (eq-eqb test test refl) ∙ or_last (is_among order test)))))
+              (get_or-set_same taken test true false b.within
+              ∙ sym (among_push order test test ∙ (ap (λ c. is_among order test || c) (eq-eqb test test refl) ∙ or_last (is_among order test)))))
               (λ ne. get_or-set_other taken test other true false ne ∙ (t.among other lt
-                  ∙ sym (among_push order test other ∙ (ap (λ c. is_among order other || c) (ne_eqb test other (λ e. ne (sym e))) ∙ or_false (is_among order other)))))
+              ∙ sym (among_push order test other ∙ (ap (λ c. is_among order other || c) (ne_eqb test other (λ e. ne (sym e))) ∙ or_false (is_among order other)))))
               (cases_eq other test);
           each = λ place other h. ⊎_elim
               (λ before. subst (λ (l : List ℕ). IsBest (added sets rows l) (is_among l) (length sets) other) (sym (take-append-le place order (test ∷ []) (omega arith)))
-                  (t.each place other (sym (before_push order test place before) ∙ h)))
+              (t.each place other (sym (before_push order test place before) ∙ h)))
               (λ after.
               let in_all = slice_get_within (order ++ test ∷ []) place other h in
               let more : length (order ++ test ∷ []) ≡ length order + length (test ∷ []) = length-append order (test ∷ []) in
@@ -176,7 +175,7 @@ module _ (sets : List (List ℕ)) (rows : ℕ) where
               let same : test ≡ other = (let z : Some test ≡ Some other = sym (at_push order test place last) ∙ h in cc) in
               let all : order ≡ take place (order ++ test ∷ []) = sym (take-append-le place order (test ∷ []) (omega arith) ∙ take_all place order (omega arith)) in
               subst (λ (l : List ℕ). IsBest (added sets rows l) (is_among l) (length sets) other) all
-                  (subst (λ (o : ℕ). IsBest (added sets rows order) (is_among order) (length sets) o) same (next test b)))
+              (subst (λ (o : ℕ). IsBest (added sets rows order) (is_among order) (length sets) o) same (next test b)))
               (cases_lt place (length order));
         }
 
@@ -186,8 +185,19 @@ pub fewer : (taken : List Bool) (test : ℕ) → test < length taken → at take
 fewer taken test lt off =
     let long : length (set taken test true) ≡ length taken = length-set taken test true in
     let less : count_to (λ t. not (at taken t)) (length taken) ≡ count_to (λ t. not (at (set taken test true) t)) (length taken) + 1 =
-        count_one (λ t. not (at (set taken test true) t)) (λ t. not (at taken t)) (length taken) test lt (ap not (get_or-set_same taken test true false lt)) (ap not off)
-            (λ t ne. ap not (get_or-set_other taken test t true false ne)) in
+    count_one (λ t. not (at (set taken test true) t)) (λ t. not (at taken t)) (length taken) test lt (ap not (get_or-set_same taken test true false lt)) (ap not off)
+    (λ t ne. ap not (get_or-set_other taken test t true false ne)) in
     let same : count_to (λ t. not (at (set taken test true) t)) (length (set taken test true)) ≡ count_to (λ t. not (at (set taken test true) t)) (length taken) =
-        ap (count_to (λ t. not (at (set taken test true) t))) long in
+    ap (count_to (λ t. not (at (set taken test true) t))) long in
     omega arith
+
+-- what a set adds is what its test adds
+pub gain_is : (sets : List (List ℕ)) (covered : List Bool) (test : ℕ) (set : List ℕ) (gain : ℕ) → set ≡ rows_or (slice_get sets test)
+    → gain ≡ count_to (λ row. exercises (Some set) row && not (at covered row)) (length covered) → gain ≡ uncovered sets covered test
+gain_is sets covered test set gain same is =
+    is ∙ count_same (λ row. exercises (Some set) row && not (at covered row)) (λ row. has sets test row && not (at covered row)) (length covered)
+    (λ row lt. ap (λ h. h && not (at covered row)) (ap (λ s. exercises (Some s) row) same ∙ rows_or_none (slice_get sets test) row))
+
+pub best_at : (sets : List (List ℕ)) (c d t u : List Bool) (test : ℕ) → c ≡ d → t ≡ u → IsBest (uncovered sets c) (at t) (length t) test → IsBest (uncovered sets d) (at u) (length u) test
+best_at sets c d t u test p q b =
+    subst (λ (x : List Bool). IsBest (uncovered sets x) (at u) (length u) test) p (subst (λ (x : List Bool). IsBest (uncovered sets c) (at x) (length x) test) q b)

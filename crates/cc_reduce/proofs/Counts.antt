@@ -17,15 +17,15 @@ count_one f g zero x lt off on same = absurd (omega arith)
 count_one f g (suc n) x lt off on same =
     ⊎_elim
     (λ before.
-        let more : count_to g n ≡ count_to f n + 1 = count_one f g n x before off on same in
-        let here : one_if (f n) ≡ one_if (g n) = ap one_if (same n (λ e. let z : n ≡ x = e in absurd (omega arith))) in
-        omega arith)
+    let more : count_to g n ≡ count_to f n + 1 = count_one f g n x before off on same in
+    let here : one_if (f n) ≡ one_if (g n) = ap one_if (same n (λ e. let z : n ≡ x = e in absurd (omega arith))) in
+    omega arith)
     (λ after.
-        let at : n ≡ x = omega arith in
-        let before : count_to f n ≡ count_to g n = count_same f g n (λ i lt. same i (λ e. let z : i ≡ x = e in absurd (omega arith))) in
-        let zero : one_if (f n) ≡ 0 = ap (λ i. one_if (f i)) at ∙ ap one_if off in
-        let one : one_if (g n) ≡ 1 = ap (λ i. one_if (g i)) at ∙ ap one_if on in
-        omega arith)
+    let at : n ≡ x = omega arith in
+    let before : count_to f n ≡ count_to g n = count_same f g n (λ i lt. same i (λ e. let z : i ≡ x = e in absurd (omega arith))) in
+    let zero : one_if (f n) ≡ 0 = ap (λ i. one_if (f i)) at ∙ ap one_if off in
+    let one : one_if (g n) ≡ 1 = ap (λ i. one_if (g i)) at ∙ ap one_if on in
+    omega arith)
     (cases_lt x n)
 
 one_most : (b : Bool) → one_if b ≤ 1

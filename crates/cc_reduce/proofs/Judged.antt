@@ -41,7 +41,7 @@ module _ (sets : List (List ℕ)) (rows : ℕ) where
   step kept test row lt c =
       ⊎_elim
       (λ e. by (is_needed sets rows kept test) refl
-          (subst (λ (t : ℕ). at kept t ≡ true) e c.1) (subst (λ (t : ℕ). has sets t row ≡ true) e c.2))
+      (subst (λ (t : ℕ). at kept t ≡ true) e c.1) (subst (λ (t : ℕ). has sets t row ≡ true) e c.2))
       (λ ne. (c.0, get_or-set_other kept test c.0 (is_needed sets rows kept test) false ne ∙ c.1, c.2))
       (cases_eq c.0 test)
     where
@@ -83,14 +83,15 @@ module _ (sets : List (List ℕ)) (rows : ℕ) where
       each count (looked kept count)
       (λ i lt. get_or-set_other kept count i (is_needed sets rows kept count) false (λ e. let z : i ≡ count = e in absurd (omega arith)) ∙ early i (omega arith))
       (λ t le there. ⊎_elim
-          (λ e. subst (λ (t : ℕ). Needed (looked kept count) t) (sym e)
-              (fewer kept (looked kept count) count sub (needed kept count (sym here ∙ subst (λ (t : ℕ). at (looked kept count) t ≡ true) e there))))
-          (λ ne. fewer kept (looked kept count) t sub (late t (let z : t ≢ count = ne in omega arith) (sym (get_or-set_other kept count t (is_needed sets rows kept count) false ne) ∙ there)))
-          (cases_eq t count))
+      (λ e. subst (λ (t : ℕ). Needed (looked kept count) t) (sym e)
+      (fewer kept (looked kept count) count sub (needed kept count (sym here ∙ subst (λ (t : ℕ). at (looked kept count) t ≡ true) e there))))
+      (λ ne. fewer kept (looked kept count) t sub (late t (let z : t ≢ count = ne in omega arith) (sym (get_or-set_other kept count t (is_needed sets rows kept count) false ne) ∙ there)))
+      (cases_eq t count))
       test k
     where
       here : at (looked kept count) count ≡ is_needed sets rows kept count
       here = get_or-set_same kept count (is_needed sets rows kept count) false (at_within kept count (early count (omega arith)))
+
       sub : (other : ℕ) → at (looked kept count) other ≡ true → at kept other ≡ true
       sub other h = ⊎_elim (λ e. ap (at kept) e ∙ early count (omega arith)) (λ ne. sym (get_or-set_other kept count other (is_needed sets rows kept count) false ne) ∙ h) (cases_eq other count)
 

@@ -75,10 +75,10 @@ module _ (sets : List (List ℕ)) (rows : ℕ) where
     early = λ i lt. get_or-replicate (length sets) i true false lt;
     marks = λ row lt. get_or-replicate rows row false false lt
         ∙ sym (not_so (later_of (replicate (length sets) true) (length sets) row)
-            (λ h. let j = later_true (replicate (length sets) true) (length sets) row h in
-            let within = has_within sets j.0 row j.3 in
-            let from = j.1 in
-            absurd (omega arith)));
+        (λ h. let j = later_true (replicate (length sets) true) (length sets) row h in
+        let within = has_within sets j.0 row j.3 in
+        let from = j.1 in
+        absurd (omega arith)));
     rest = refl;
   }
 
@@ -112,12 +112,12 @@ module _ (sets : List (List ℕ)) (rows : ℕ) where
         let parts = new_parts (first_to sets row (length sets)) (at later row) test (sym (told row lt) ∙ new) in
         let first = first_has sets row (length sets) parts.0 parts.1 in
         let none : others sets kept test row ≡ false = not_so (others sets kept test row) (λ o.
-            let other = others_true sets rows kept test row o in
-            ⊎_elim
-            (λ before. let le = parts.2 in true≢false (sym other.3 ∙ first.1 other.0 (omega arith)))
-            (λ after. let ne : other.0 ≢ test = other.1 in
-            true≢false (sym (later_found kept (suc test) row other.0 (omega arith) other.2 other.3) ∙ (sym (looked.marks row lt) ∙ parts.3)))
-            (cases_lt other.0 test)) in
+        let other = others_true sets rows kept test row o in
+        ⊎_elim
+        (λ before. let le = parts.2 in true≢false (sym other.3 ∙ first.1 other.0 (omega arith)))
+        (λ after. let ne : other.0 ≢ test = other.1 in
+        true≢false (sym (later_found kept (suc test) row other.0 (omega arith) other.2 other.3) ∙ (sym (looked.marks row lt) ∙ parts.3)))
+        (cases_lt other.0 test)) in
         any_found (λ row. has sets test row && not (others sets kept test row)) rows row lt (and_from (has sets test row) (not (others sets kept test row)) h (not_false (others sets kept test row) none))
 
     to_needed : any_to new_at (length set_of) ≡ true → is_needed sets rows kept test ≡ true
@@ -128,8 +128,8 @@ module _ (sets : List (List ℕ)) (rows : ℕ) where
         let is_at : slice_get set_of i ≡ Some row = slice_get-get_or set_of i 0 found.1 in
         let new : is_new_at (marks_to sets rows) later test (Some row) ≡ true = sym (ap (is_new_at (marks_to sets rows) later test) is_at) ∙ found.2 in
         let here : has sets test row ≡ true =
-            sym (rows_or_none (slice_get sets test) row)
-            ∙ any_found (λ i. is_row (slice_get set_of i) row) (length set_of) i found.1 (ap (λ o. is_row o row) is_at ∙ eq-eqb row row refl) in
+        sym (rows_or_none (slice_get sets test) row)
+        ∙ any_found (λ i. is_row (slice_get set_of i) row) (length set_of) i found.1 (ap (λ o. is_row o row) is_at ∙ eq-eqb row row refl) in
         ⊎_elim
         (λ lt. alone row lt here new)
         (λ ge. let wide = looked.wide in
@@ -151,18 +151,18 @@ module _ (sets : List (List ℕ)) (rows : ℕ) where
         let f = first.0 in
         let firsts = first_has sets row (length sets) f first.1 in
         let after : nat_lt f test ≡ false = not_so (nat_lt f test) (λ less.
-            ⊎_elim
-            (λ before. true≢false (sym (others_found sets rows kept test row f (λ e. let z : f ≡ test = e in absurd (omega arith)) (looked.early f (omega arith)) firsts.0) ∙ none))
-            (λ ge. true≢false (sym less ∙ le-ltb f test ge))
-            (cases_lt f test)) in
+        ⊎_elim
+        (λ before. true≢false (sym (others_found sets rows kept test row f (λ e. let z : f ≡ test = e in absurd (omega arith)) (looked.early f (omega arith)) firsts.0) ∙ none))
+        (λ ge. true≢false (sym less ∙ le-ltb f test ge))
+        (cases_lt f test)) in
         let free : at later row ≡ false = looked.marks row found.1 ∙ not_so (later_of kept (suc test) row) (λ l.
-            let other = later_true kept (suc test) row l in
-            let from = other.1 in
-            true≢false (sym (others_found sets rows kept test row other.0 (λ e. let z : other.0 ≡ test = e in absurd (omega arith)) other.2 other.3) ∙ none)) in
+        let other = later_true kept (suc test) row l in
+        let from = other.1 in
+        true≢false (sym (others_found sets rows kept test row other.0 (λ e. let z : other.0 ≡ test = e in absurd (omega arith)) other.2 other.3) ∙ none)) in
         any_found new_at (length set_of) place.0 place.1
-            (ap (is_new_at (marks_to sets rows) later test) (is_that (slice_get set_of place.0) row place.2)
-            ∙ (told row found.1 ∙ (ap (λ m. is_new (Some m) (Some (at later row)) test) first.1
-            ∙ and_from (not (nat_lt f test)) (not (at later row)) (not_false (nat_lt f test) after) (not_false (at later row) free))))
+        (ap (is_new_at (marks_to sets rows) later test) (is_that (slice_get set_of place.0) row place.2)
+        ∙ (told row found.1 ∙ (ap (λ m. is_new (Some m) (Some (at later row)) test) first.1
+        ∙ and_from (not (nat_lt f test)) (not (at later row)) (not_false (nat_lt f test) after) (not_false (at later row) free))))
 
     pub needed_is : any_to new_at (length set_of) ≡ is_needed sets rows kept test
     needed_is = both_ways (any_to new_at (length set_of)) (is_needed sets rows kept test) to_needed from_needed
@@ -171,28 +171,28 @@ module _ (sets : List (List ℕ)) (rows : ℕ) where
     later_step b row =
         both_ways (later_of (set kept test b) test row) (later_of kept (suc test) row || (b && has sets test row))
         (λ h.
-            let j = later_true (set kept test b) test row h in
-            let from = j.1 in
-            ⊎_elim
-            (λ e.
-                let size = looked.size in
-                let set_is : b ≡ true = sym (get_or-set_same kept test b false (omega arith)) ∙ subst (λ (t : ℕ). at (set kept test b) t ≡ true) e j.2 in
-                or_right (later_of kept (suc test) row) (b && has sets test row) (and_from b (has sets test row) set_is (subst (λ (t : ℕ). has sets t row ≡ true) e j.3)))
-            (λ ne. let z : j.0 ≢ test = ne in
-            or_left (later_of kept (suc test) row) (b && has sets test row)
-                (later_found kept (suc test) row j.0 (omega arith) (sym (get_or-set_other kept test j.0 b false ne) ∙ j.2) j.3))
-            (cases_eq j.0 test))
+        let j = later_true (set kept test b) test row h in
+        let from = j.1 in
+        ⊎_elim
+        (λ e.
+        let size = looked.size in
+        let set_is : b ≡ true = sym (get_or-set_same kept test b false (omega arith)) ∙ subst (λ (t : ℕ). at (set kept test b) t ≡ true) e j.2 in
+        or_right (later_of kept (suc test) row) (b && has sets test row) (and_from b (has sets test row) set_is (subst (λ (t : ℕ). has sets t row ≡ true) e j.3)))
+        (λ ne. let z : j.0 ≢ test = ne in
+        or_left (later_of kept (suc test) row) (b && has sets test row)
+        (later_found kept (suc test) row j.0 (omega arith) (sym (get_or-set_other kept test j.0 b false ne) ∙ j.2) j.3))
+        (cases_eq j.0 test))
         (λ h. ⊎_elim
-            (λ old.
-                let j = later_true kept (suc test) row old in
-                let from = j.1 in
-                later_found (set kept test b) test row j.0 (omega arith)
-                    (get_or-set_other kept test j.0 b false (λ e. let z : j.0 ≡ test = e in absurd (omega arith)) ∙ j.2) j.3)
-            (λ new.
-                let size = looked.size in
-                let parts = and_parts b (has sets test row) new in
-                later_found (set kept test b) test row test (omega arith) (get_or-set_same kept test b false (omega arith) ∙ parts.0) parts.1)
-            (or_cases (later_of kept (suc test) row) (b && has sets test row) h))
+        (λ old.
+        let j = later_true kept (suc test) row old in
+        let from = j.1 in
+        later_found (set kept test b) test row j.0 (omega arith)
+        (get_or-set_other kept test j.0 b false (λ e. let z : j.0 ≡ test = e in absurd (omega arith)) ∙ j.2) j.3)
+        (λ new.
+        let size = looked.size in
+        let parts = and_parts b (has sets test row) new in
+        later_found (set kept test b) test row test (omega arith) (get_or-set_same kept test b false (omega arith) ∙ parts.0) parts.1)
+        (or_cases (later_of kept (suc test) row) (b && has sets test row) h))
 
     pub looked_step : (b : Bool) (more : List Bool) → b ≡ is_needed sets rows kept test → length more ≡ rows → ((row : ℕ) → row < rows → at more row ≡ at later row || (b && has sets test row))
         → IsLooked test more (set kept test b)
@@ -207,7 +207,7 @@ module _ (sets : List (List ℕ)) (rows : ℕ) where
         }
 
 -- a list that is written over whole
-spliced : (n : ℕ) (xs ys : List Bool) → length xs ≡ n → take n (xs ++ drop (length xs) ys) ≡ xs
+pub spliced : (n : ℕ) (xs ys : List Bool) → length xs ≡ n → take n (xs ++ drop (length xs) ys) ≡ xs
 spliced n xs ys e = take-append-le n xs (drop (length xs) ys) (omega arith) ∙ take_all n xs (omega arith)
 
 module _ (sets : List (List ℕ)) (rows test : ℕ) (later kept : List Bool) (looked : IsLooked sets rows (suc test) later kept) (within : test < length sets)

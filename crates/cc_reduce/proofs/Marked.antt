@@ -73,12 +73,12 @@ covered_new old rows index now added x c h lt off =
     let long : length (set now x true) ≡ length now = length-set now x true in
     let was = left_no (at old x) (has_to rows x index) neither in
     let new : count_to (λ row. has_to rows row (index + 1) && not (at old row)) (length old) ≡ count_to (λ row. has_to rows row index && not (at old row)) (length old) + 1 =
-        count_one (λ row. has_to rows row index && not (at old row)) (λ row. has_to rows row (index + 1) && not (at old row)) (length old) x within
-            (ap (λ b. b && not (at old x)) (right_no (at old x) (has_to rows x index) neither))
-            (ap (λ b. b && not (at old x)) (has_now rows index x h) ∙ ap not was)
-            (λ row ne. ap (λ b. b && not (at old row)) (sym (has_else rows index x row h ne))) in
+    count_one (λ row. has_to rows row index && not (at old row)) (λ row. has_to rows row (index + 1) && not (at old row)) (length old) x within
+    (ap (λ b. b && not (at old x)) (right_no (at old x) (has_to rows x index) neither))
+    (ap (λ b. b && not (at old x)) (has_now rows index x h) ∙ ap not was)
+    (λ row ne. ap (λ b. b && not (at old row)) (sym (has_else rows index x row h ne))) in
     let all : count_to (λ row. at (set now x true) row) (length old) ≡ count_to (λ row. at now row) (length old) + 1 =
-        count_one (λ row. at now row) (λ row. at (set now x true) row) (length old) x within off (get_or-set_same now x true false lt) (λ row ne. sym (get_or-set_other now x row true false ne)) in
+    count_one (λ row. at now row) (λ row. at (set now x true) row) (length old) x within off (get_or-set_same now x true false lt) (λ row ne. sym (get_or-set_other now x row true false ne)) in
     let before = c.new in
     let sum = c.all in
     let few = c.few in
@@ -86,7 +86,7 @@ covered_new old rows index now added x c h lt off =
       same = long ∙ c.same;
       marks = λ row in_old. ⊎_elim
           (λ e. subst (λ (r : ℕ). at (set now x true) r ≡ at old r || has_to rows r (index + 1)) (sym e)
-              (get_or-set_same now x true false lt ∙ sym (ap (λ b. at old x || b) (has_now rows index x h) ∙ or_last (at old x))))
+          (get_or-set_same now x true false lt ∙ sym (ap (λ b. at old x || b) (has_now rows index x h) ∙ or_last (at old x))))
           (λ ne. get_or-set_other now x row true false ne ∙ (c.marks row in_old ∙ ap (λ b. at old row || b) (sym (has_else rows index x row h ne))))
           (cases_eq row x);
       new = omega arith;
@@ -100,7 +100,7 @@ covered_old old rows index now added x c h marked =
     let size = c.same in
     let few = c.few in
     let either : (row : ℕ) → row < length old → row ≡ x → at old row || has_to rows row index ≡ true =
-        (λ row lt e. let z : row ≡ x = e in sym (c.marks row lt) ∙ (ap (at now) e ∙ marked (omega arith))) in
+    (λ row lt e. let z : row ≡ x = e in sym (c.marks row lt) ∙ (ap (at now) e ∙ marked (omega arith))) in
     record {
       same = c.same;
       marks = λ row lt. ⊎_elim
@@ -109,9 +109,9 @@ covered_old old rows index now added x c h marked =
           (cases_eq row x);
       new = c.new ∙ sym (count_same (λ row. has_to rows row (index + 1) && not (at old row)) (λ row. has_to rows row index && not (at old row)) (length old)
           (λ row lt. ⊎_elim
-              (λ e. ap (λ b. b && not (at old row)) (has_more rows row index x h) ∙ known (at old row) (nat_eq x row) (has_to rows row index) (either row lt e))
-              (λ ne. ap (λ b. b && not (at old row)) (has_else rows index x row h ne))
-              (cases_eq row x)));
+          (λ e. ap (λ b. b && not (at old row)) (has_more rows row index x h) ∙ known (at old row) (nat_eq x row) (has_to rows row index) (either row lt e))
+          (λ ne. ap (λ b. b && not (at old row)) (has_else rows index x row h ne))
+          (cases_eq row x)));
       all = c.all;
       few = omega arith;
     }
@@ -132,9 +132,9 @@ has_not rows index x up h =
     let within = slice_get_within rows index x h in
     let at_x : get_or rows index 0 ≡ x = get_or_from_slice_get rows index x 0 h in
     any_none (λ i. is_row (slice_get rows i) x) index
-        (λ i lt.
-        let less : get_or rows i 0 < get_or rows index 0 = rises rows up i index lt within in
-        ap (λ o. is_row o x) (slice_get-get_or rows i 0 (omega arith)) ∙ ne_eqb (get_or rows i 0) x (λ e. let z : get_or rows i 0 ≡ x = e in absurd (omega arith)))
+    (λ i lt.
+    let less : get_or rows i 0 < get_or rows index 0 = rises rows up i index lt within in
+    ap (λ o. is_row o x) (slice_get-get_or rows i 0 (omega arith)) ∙ ne_eqb (get_or rows i 0) x (λ e. let z : get_or rows i 0 ≡ x = e in absurd (omega arith)))
 
 -- so many of the rows are looked at
 pub record IsCounted (covered : List Bool) (rows : List ℕ) (index count : ℕ) : Type 0 where
@@ -150,10 +150,10 @@ counted_new covered rows index count x c up h lt off =
     let exact = c.exact in
     let few = c.few in
     let new : count_to (λ row. has_to rows row (index + 1) && not (at covered row)) (length covered) ≡ count_to (λ row. has_to rows row index && not (at covered row)) (length covered) + 1 =
-        count_one (λ row. has_to rows row index && not (at covered row)) (λ row. has_to rows row (index + 1) && not (at covered row)) (length covered) x lt
-            (ap (λ b. b && not (at covered x)) (has_not rows index x up h))
-            (ap (λ b. b && not (at covered x)) (has_now rows index x h) ∙ ap not off)
-            (λ row ne. ap (λ b. b && not (at covered row)) (sym (has_else rows index x row h ne))) in
+    count_one (λ row. has_to rows row index && not (at covered row)) (λ row. has_to rows row (index + 1) && not (at covered row)) (length covered) x lt
+    (ap (λ b. b && not (at covered x)) (has_not rows index x up h))
+    (ap (λ b. b && not (at covered x)) (has_now rows index x h) ∙ ap not off)
+    (λ row ne. ap (λ b. b && not (at covered row)) (sym (has_else rows index x row h ne))) in
     record { exact = omega arith; few = omega arith }
 
 pub counted_old : (covered : List Bool) (rows : List ℕ) (index count x : ℕ) → IsCounted covered rows index count → slice_get rows index ≡ Some x
@@ -163,10 +163,10 @@ counted_old covered rows index count x c h marked =
     record {
       exact = c.exact ∙ sym (count_same (λ row. has_to rows row (index + 1) && not (at covered row)) (λ row. has_to rows row index && not (at covered row)) (length covered)
           (λ row lt. ⊎_elim
-              (λ e. let z : row ≡ x = e in
-              let on : at covered row ≡ true = ap (at covered) e ∙ marked (omega arith) in
-              ap (λ b. has_to rows row (index + 1) && not b) on ∙ (and_none (has_to rows row (index + 1)) ∙ sym (ap (λ b. has_to rows row index && not b) on ∙ and_none (has_to rows row index))))
-              (λ ne. ap (λ b. b && not (at covered row)) (has_else rows index x row h ne))
-              (cases_eq row x)));
+          (λ e. let z : row ≡ x = e in
+          let on : at covered row ≡ true = ap (at covered) e ∙ marked (omega arith) in
+          ap (λ b. has_to rows row (index + 1) && not b) on ∙ (and_none (has_to rows row (index + 1)) ∙ sym (ap (λ b. has_to rows row index && not b) on ∙ and_none (has_to rows row index))))
+          (λ ne. ap (λ b. b && not (at covered row)) (has_else rows index x row h ne))
+          (cases_eq row x)));
       few = omega arith;
     }

@@ -1,5 +1,5 @@
 // What is kept, and the order, as tables.
-ghost use Rattle.std.specs.Prelude.{◌≡◌, ◌++◌, ◌∷◌, ◌≤◌, [], IfOk, OnOk};
+ghost use Rattle.std.specs.Prelude.{◌≡◌, ◌++◌, ◌∷◌, ◌+◌, ◌-◌, ◌<◌, ◌≤◌, ◌^◌, [], IfOk, OnOk};
 ghost use Rattle.std.specs.Fmt.{decimal};
 ghost use Rattle.cc_tables.specs.Records.{IsFresh, record_text, written};
 ghost use Rattle.cc_score.specs.Counts as score;
@@ -30,13 +30,8 @@ pub fn reduce_csv(
     let mut kept: usize = 0;
     for test in 0..tests.len() as usize {
         let is_kept = is_marked(marks, test);
-        let rows = rows_of(scores, test).len().to_string(alloc)?;
-        put_three(
-            &mut records,
-            name_of(tests, test),
-            yes_or_no(is_kept),
-            rows.as_str(),
-        )?;
+        let rows = rows_of(scores, test).len();
+        put_mark(alloc, &mut records, name_of(tests, test), is_kept, rows)?;
         kept += one_if(is_kept);
     }
     let mut text = text_of(records)?;
@@ -65,15 +60,13 @@ pub fn order_csv(
         let test = *order.get(place) as usize;
         let added = cover(&mut covered, rows_of(scores, test));
         total += added;
-        let number = (place + 1).to_string(alloc)?;
-        let new = added.to_string(alloc)?;
-        let all = total.to_string(alloc)?;
-        put_four(
+        put_place(
+            alloc,
             &mut records,
-            number.as_str(),
+            place,
             name_of(tests, test),
-            new.as_str(),
-            all.as_str(),
+            added,
+            total,
         )?;
     }
     text_of(records)
@@ -110,6 +103,48 @@ fn one_if(counts: bool) -> usize
     ensures bound { result ≤ 1 }
 {
     if counts { 1 } else { 0 }
+}
+
+// Writes the record of a test: its name, whether it is kept, and how many rows it has.
+fn put_mark(
+    alloc: Global,
+    records: &mut Records,
+    name: &str,
+    is_kept: bool,
+    rows: usize,
+) -> Result<(), Memory>
+    requires { IsFresh records.old }
+    ensures { OnOk result (IsFresh records.new × (written records.new ≡ written records.old
+        ++ record_text (name.now ∷ spec.yes_or_no is_kept ∷ decimal rows ∷ []))) }
+{
+    let rows = rows.to_string(alloc)?;
+    put_three(records, name, yes_or_no(is_kept), rows.as_str())
+}
+
+// Writes the record of a place, which is printed from 1: the test's name, how many rows it adds, and how many there are.
+fn put_place(
+    alloc: Global,
+    records: &mut Records,
+    place: u64,
+    name: &str,
+    added: usize,
+    total: usize,
+) -> Result<(), Memory>
+    requires fresh { IsFresh records.old }
+    requires within { place < 2 ^ 64 - 1 }
+    ensures { OnOk result (IsFresh records.new × (written records.new ≡ written records.old
+        ++ record_text (decimal (place + 1) ∷ name.now ∷ decimal added ∷ decimal total ∷ []))) }
+{
+    let place = (place + 1).to_string(alloc)?;
+    let added = added.to_string(alloc)?;
+    let total = total.to_string(alloc)?;
+    put_four(
+        records,
+        place.as_str(),
+        name,
+        added.as_str(),
+        total.as_str(),
+    )
 }
 
 // Writes a record of three fields.

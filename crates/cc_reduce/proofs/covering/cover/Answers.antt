@@ -14,8 +14,8 @@ loop-row-preserved c =
     let within : i < length rows = omega arith in
     let row = slice_get-get_or rows i 0 within in
     elim c.if-is_open.branch [
-      then-is_open w ↦
+      | then-is_open w ↦
           let is_open = c.is_open.ensures.open w.if-is_open.true in
           rw w.covered-is (rw w.added-is (covered_new c.args.covered.now rows i c.loop-row.covered c.loop-row.added (get_or rows i 0) c.loop-row.invariant row is_open.0 is_open.1))
-    | else-is_open w ↦ rw w.covered-is (rw w.added-is (covered_old c.args.covered.now rows i c.loop-row.covered c.loop-row.added (get_or rows i 0) c.loop-row.invariant row (c.is_open.ensures.closed w.if-is_open.false)))
+      | else-is_open w ↦ rw w.covered-is (rw w.added-is (covered_old c.args.covered.now rows i c.loop-row.covered c.loop-row.added (get_or rows i 0) c.loop-row.invariant row (c.is_open.ensures.closed w.if-is_open.false)))
     ]

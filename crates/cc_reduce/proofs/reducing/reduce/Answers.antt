@@ -22,11 +22,11 @@ loop-test-preserved-then-is_needed c =
     let e : c.loop-test.test ≡ suc (c.loop-test.test - 1) = omega arith in
     let within : c.loop-test.test - 1 < length sets = omega arith in
     looked_kept sets rows test c.loop-test.later.items c.loop-test.kept.items
-        (subst (λ (t : ℕ). IsLooked sets rows t c.loop-test.later.items c.loop-test.kept.items) e c.loop-test.invariant) within
-        _ c.deref.result.now c.rows_of-rows.result.now c.has_new-is_needed.result
-        (c.in_ok-first.ensures ∙ ap (marks_to sets) c.len-2.ensures) c.deref.ensures.value c.rows_of-rows.ensures c.has_new-is_needed.ensures
-        c.loop-test.later.len c.cover.new.covered c.if-is_needed.true (omega arith) (omega arith)
-        (subst (λ (l : List Bool). (row : ℕ) → row < length l → at c.cover.new.covered row ≡ at l row || exercises (Some c.rows_of-rows.result.now) row) c.deref_mut.ensures.value c.cover.ensures.covered)
+    (subst (λ (t : ℕ). IsLooked sets rows t c.loop-test.later.items c.loop-test.kept.items) e c.loop-test.invariant) within
+    _ c.deref.result.now c.rows_of-rows.result.now c.has_new-is_needed.result
+    (c.in_ok-first.ensures ∙ ap (marks_to sets) c.len-2.ensures) c.deref.ensures.value c.rows_of-rows.ensures c.has_new-is_needed.ensures
+    c.loop-test.later.len c.cover.new.covered c.if-is_needed.true (omega arith) (omega arith)
+    (subst (λ (l : List Bool). (row : ℕ) → row < length l → at c.cover.new.covered row ≡ at l row || exercises (Some c.rows_of-rows.result.now) row) c.deref_mut.ensures.value c.cover.ensures.covered)
 
 pub loop-test-preserved : goal.loop-test-preserved
 loop-test-preserved c =
@@ -36,6 +36,6 @@ loop-test-preserved c =
     let e : c.loop-test.test ≡ suc (c.loop-test.test - 1) = omega arith in
     let within : c.loop-test.test - 1 < length sets = omega arith in
     looked_out sets rows test c.loop-test.later.items c.loop-test.kept.items
-        (subst (λ (t : ℕ). IsLooked sets rows t c.loop-test.later.items c.loop-test.kept.items) e c.loop-test.invariant) within
-        _ c.deref.result.now c.rows_of-rows.result.now c.has_new-is_needed.result
-        (c.in_ok-first.ensures ∙ ap (marks_to sets) c.len-2.ensures) c.deref.ensures.value c.rows_of-rows.ensures c.has_new-is_needed.ensures c.if-is_needed.false
+    (subst (λ (t : ℕ). IsLooked sets rows t c.loop-test.later.items c.loop-test.kept.items) e c.loop-test.invariant) within
+    _ c.deref.result.now c.rows_of-rows.result.now c.has_new-is_needed.result
+    (c.in_ok-first.ensures ∙ ap (marks_to sets) c.len-2.ensures) c.deref.ensures.value c.rows_of-rows.ensures c.has_new-is_needed.ensures c.if-is_needed.false
