@@ -1,12 +1,12 @@
 -- The tests that are kept cover all, and each of them is needed.
-use Rattle.std.proofs.Common.{◌≡◌, ◌≢◌, ℕ, zero, suc, ◌+◌, ◌<◌, ◌≤◌, ⊎_elim, List, Bool, true, false, length, get_or, replicate, set, refl, ap, sym, ◌∙◌, subst, arith, get_or-set_other, get_or-set_same, length-set}
+use Rattle.std.proofs.Common.{◌≡◌, ◌≢◌, ℕ, zero, suc, ◌<◌, ◌≤◌, ⊎_elim, List, Bool, true, false, length, replicate, set, refl, ap, sym, ◌∙◌, subst, arith, get_or-set_other, get_or-set_same}
 use Rattle.std.specs.Prelude.{nat_eq, not, ◌&&◌}
 use Rattle.std.proofs.lemmas.Bool.{true≢false, and_from, and_parts, cases_eq, cases_lt, ne_eqb}
 use Rattle.std.proofs.lemmas.List.{get_or-replicate, get_or_past}
 use Rattle.cc_reduce.specs.Laws.{EachKeptTestIsNeeded, KeptTestsCoverAll}
-use Rattle.cc_reduce.specs.Reduced.{is_needed, others, reduced, reduced_from}
+use Rattle.cc_reduce.specs.Reduced.{is_needed, others, reduced_from}
 use Rattle.cc_reduce.specs.Rows.{at, has}
-use Rattle.cc_reduce.proofs.Tests.{any_found, any_none, any_true, has_within, not_false, not_so, not_true}
+use Rattle.cc_reduce.proofs.Tests.{any_found, any_true, has_within, not_false, not_true}
 
 -- what is marked is within
 pub at_within : (marks : List Bool) (i : ℕ) → at marks i ≡ true → i < length marks

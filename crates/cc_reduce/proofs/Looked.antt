@@ -1,17 +1,17 @@
 -- Tests that are looked at, the last of them first.
-use Rattle.std.proofs.Common.{◌≡◌, ◌≢◌, ℕ, zero, suc, ◌+◌, ◌<◌, ◌≤◌, ⊎_elim, List, ◌++◌, Option, Some, None, Bool, true, false, length, drop, get_or, replicate, set, take, refl, ap, sym, ◌∙◌, subst, arith, get_or-set_other, get_or-set_same, length-set}
-use Rattle.std.specs.Prelude.{slice_get, nat_eq, nat_lt, not, ◌&&◌, ◌||◌}
-use Rattle.std.proofs.lemmas.Bool.{true≢false, and_from, and_parts, cases_eq, cases_lt, eq-eqb, le-ltb, lt-ltb, ltb-false, ne_eqb, or_cases, or_left, or_right}
+use Rattle.std.proofs.Common.{◌≡◌, ◌≢◌, ℕ, zero, suc, ◌<◌, ◌≤◌, ⊎_elim, List, ◌++◌, Option, Some, None, Bool, true, false, length, drop, get_or, replicate, set, take, refl, ap, sym, ◌∙◌, subst, arith, get_or-set_other, get_or-set_same, length-set}
+use Rattle.std.specs.Prelude.{slice_get, nat_lt, not, ◌&&◌, ◌||◌}
+use Rattle.std.proofs.lemmas.Bool.{true≢false, and_from, and_parts, cases_eq, cases_lt, eq-eqb, le-ltb, ltb-false, ne_eqb, or_cases, or_left, or_right}
 use Rattle.std.proofs.lemmas.List.{get_or-replicate, length-replicate, take-append-le, take_all}
 use Rattle.std.proofs.lemmas.Option.{slice_get-get_or, slice_get_past}
 use Rattle.cc_score.specs.Any.{any_to}
-use Rattle.cc_score.specs.Firsts.{exercises, first_to, has_to, is_row, marks_to, or_test}
+use Rattle.cc_score.specs.Firsts.{exercises, first_to, is_row, marks_to, or_test}
 use Rattle.cc_tables.specs.TestTable.{rows_or}
 use Rattle.cc_reduce.specs.Reduced.{is_needed, is_new, is_new_at, others, reduced, reduced_from}
 use Rattle.cc_reduce.specs.Rows.{at, has}
 use Rattle.cc_reduce.proofs.Judged.{others_found, others_true}
 use Rattle.cc_reduce.proofs.Places.{mark_at}
-use Rattle.cc_reduce.proofs.Tests.{any_found, any_none, any_true, both_ways, has_within, not_false, not_so, not_true, rows_or_none}
+use Rattle.cc_reduce.proofs.Tests.{any_found, any_true, both_ways, has_within, not_false, not_so, not_true, rows_or_none}
 
 module _ (sets : List (List ℕ)) (row : ℕ) where
   first_none : (count : ℕ) → first_to sets row count ≡ None → (j : ℕ) → j < count → has sets j row ≡ false

@@ -1,6 +1,6 @@
 -- Tests that some row passes.
-use Rattle.std.proofs.Common.{◌≡◌, ℕ, zero, suc, ◌+◌, ◌<◌, ◌≤◌, ⊎_elim, List, Option, Some, None, Bool, true, false, length, refl, ap, sym, ◌∙◌, arith}
-use Rattle.std.specs.Prelude.{slice_get, nat_eq, not, ◌&&◌, ◌||◌}
+use Rattle.std.proofs.Common.{◌≡◌, ℕ, zero, suc, ◌+◌, ◌<◌, ⊎_elim, List, Option, Some, None, Bool, true, false, length, refl, ap, sym, ◌∙◌, arith}
+use Rattle.std.specs.Prelude.{slice_get, nat_eq, not, ◌||◌}
 use Rattle.std.proofs.lemmas.Bool.{true≢false, or_left, or_right, or_from, or_cases, cases_lt}
 use Rattle.std.proofs.lemmas.Option.{slice_get_past}
 use Rattle.cc_score.specs.Any.{any_to}

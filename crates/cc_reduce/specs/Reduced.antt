@@ -1,5 +1,5 @@
 -- Which tests can be left out.
-use Rattle.std.specs.Prelude.{ℕ, zero, suc, List, Bool, true, false, not, ◌&&◌, ◌||◌, length, nat_eq, nat_lt, Option, Some, None, replicate, set, slice_get}
+use Rattle.std.specs.Prelude.{ℕ, zero, suc, List, Bool, true, false, not, ◌&&◌, length, nat_eq, nat_lt, Option, Some, None, replicate, set, slice_get}
 use Rattle.cc_score.specs.Any.{any_to}
 use Rattle.cc_reduce.specs.Rows.{has, at}
 

@@ -1,5 +1,5 @@
 -- Rows of tests, and how many there are. Rows are the numbers below a count; no other number is one.
-use Rattle.std.specs.Prelude.{ℕ, zero, suc, ◌+◌, List, [], ◌∷◌, Bool, true, false, ◌||◌, slice_get, slice_index_or}
+use Rattle.std.specs.Prelude.{ℕ, zero, suc, ◌+◌, List, [], ◌∷◌, Bool, false, ◌||◌, slice_get, slice_index_or}
 use Rattle.cc_score.specs.Counts.{one_if}
 use Rattle.cc_score.specs.Firsts.{exercises}
 

@@ -1,5 +1,5 @@
 -- The texts of what is kept, and of the order.
-use Rattle.std.specs.Prelude.{ℕ, zero, suc, ◌+◌, List, [], ◌∷◌, ◌++◌, Bool, true, false, cond, codes, length, Option, Some, None, slice_get, take}
+use Rattle.std.specs.Prelude.{ℕ, zero, suc, ◌+◌, List, [], ◌∷◌, ◌++◌, Bool, cond, codes, length, Option, Some, None, slice_get, take}
 use Rattle.std.specs.Fmt.{decimal}
 use Rattle.cc_meaning.specs.declared.score.Scores.{Scores}
 use Rattle.cc_meaning.specs.declared.test.Test.{Test}

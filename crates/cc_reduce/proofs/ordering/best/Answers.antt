@@ -1,4 +1,3 @@
-use Rattle.std.proofs.Common.{sym}
 use Rattle.cc_reduce.specs.Ordered.{uncovered}
 use Rattle.cc_reduce.specs.Rows.{at}
 use Rattle.cc_reduce.proofs.Best.{best_free, best_taken, gain_is}

@@ -1,7 +1,6 @@
 use Rattle.std.proofs.Common.{◌≡◌, ℕ, ◌<◌, List, [], ◌∷◌, ◌++◌, Some, Bool, true, length, set, sym, subst, arith}
-use Rattle.std.specs.Prelude.{slice_get, ◌||◌}
+use Rattle.std.specs.Prelude.{◌||◌}
 use Rattle.cc_score.specs.Firsts.{exercises}
-use Rattle.cc_tables.specs.TestTable.{rows_or}
 use Rattle.cc_reduce.specs.Rows.{at}
 use Rattle.cc_reduce.proofs.Best.{IsTaken, best_at, fewer, taken_more}
 use Rattle.cc_reduce.proofs.Looked.{spliced}

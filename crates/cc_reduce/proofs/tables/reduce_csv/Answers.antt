@@ -1,8 +1,8 @@
-use Rattle.std.proofs.Common.{◌≡◌, ◌+◌, ◌++◌, ap, sym, ◌∙◌, arith}
+use Rattle.std.proofs.Common.{◌≡◌, ◌++◌, ap, ◌∙◌, arith}
 use Rattle.cc_score.specs.Counts.{one_if}
 use Rattle.cc_tables.specs.Records.{record_text, written}
 use Rattle.cc_tables.proofs.Put.{written_more}
-use Rattle.cc_reduce.specs.Rows.{at, count_to}
+use Rattle.cc_reduce.specs.Rows.{at}
 use Rattle.cc_reduce.specs.Texts.{kept_to, reduce_header}
 use Rattle.cc_reduce.proofs.More.{kept_count_more, kept_more}
 use Rattle.cc_reduce.proofs.Placed.{mark_same}
