@@ -46,11 +46,7 @@ fn score_text(
 }
 
 // The text of `reduce`.
-fn reduce_text(
-    alloc: Global,
-    tests: &TestList,
-    found: &Found,
-) -> Result<Vec<u8>, Memory>
+fn reduce_text(alloc: Global, tests: &TestList, found: &Found) -> Result<Vec<u8>, Memory>
     ensures { IfOk result (λ text. text.items ≡ spec.reduce_report tests.now found.now.listing found.now.scores) }
 {
     let marks = reduce(alloc, &found.listing, &found.scores)?;
@@ -58,11 +54,7 @@ fn reduce_text(
 }
 
 // The text of `order`.
-fn order_text(
-    alloc: Global,
-    tests: &TestList,
-    found: &Found,
-) -> Result<Vec<u8>, Memory>
+fn order_text(alloc: Global, tests: &TestList, found: &Found) -> Result<Vec<u8>, Memory>
     requires { AreAscending found.now.scores.exercised }
     ensures { IfOk result (λ text. spec.IsOrderText tests.now found.now.listing found.now.scores text.items) }
 {
