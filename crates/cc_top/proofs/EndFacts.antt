@@ -11,10 +11,10 @@ use Rattle.cc_io.specs.declared.sink.SinkFault.{SinkFault}
 use Rattle.cc_io.specs.declared.sink.SinkFault.TheVariants.{Failed, Memory}
 use Rattle.cc_top.specs.Counts.{Counts}
 use Rattle.cc_top.specs.Run.{Answers, SomeEnd}
-use Rattle.cc_top.specs.Answer.{IsAnswer, made, status_when}
+use Rattle.cc_top.specs.Answer.{IsAnswer, made, reply_of, status_when}
 use Rattle.cc_top.specs.Reads.{MayRead}
 use Rattle.cc_top.specs.Refusal.{line_of, status_of, FaultNames, IsReadFault}
-use Rattle.cc_top.specs.Tells.{reply_of, EndTells}
+use Rattle.cc_top.specs.Tells.{EndTells}
 use Rattle.cc_top.specs.Ends.{done, refused, write_fault, memory, write_line, Held, EndCaused}
 use Rattle.cc_top.specs.Told.{Told, Reported}
 use Rattle.cc_top.specs.declared.output.Output.{Output}

@@ -3,9 +3,9 @@ use Rattle.std.proofs.Common.{◌≢◌, ◌<◌, ℕ, Ok, Err, inl, inr, refl}
 use Rattle.cc_gen.specs.Generated.{generated}
 use Rattle.cc_reports.specs.declared.kinds.Report.TheVariants.{Summary}
 use Rattle.cc_top.proofs.Tells.{Outcome}
-use Rattle.cc_top.specs.Answer.{AfterRead, OfBytes, OfGenerated, Reply, generated_name}
+use Rattle.cc_top.specs.Answer.{AfterRead, OfBytes, OfGenerated, Reply, generated_name, reply_of}
 use Rattle.cc_top.specs.Refusal.{IsOfInput, of_generated, status_of}
-use Rattle.cc_top.specs.Tells.{Tells, reply_of}
+use Rattle.cc_top.specs.Tells.{Tells}
 use Rattle.cc_top.specs.declared.refusal.Refusal.{Refusal}
 use Rattle.cc_top.specs.declared.refusal.Refusal.TheVariants as why
 use Rattle.cc_top.specs.declared.work.Work.TheVariants as work

@@ -4,6 +4,7 @@ pub mod EndFacts
 pub mod GeneratedFacts
 pub mod ListFacts
 pub mod Reached
+pub mod ReportFacts
 pub mod Sound
 pub mod Tells
 pub mod WordFacts

@@ -39,11 +39,11 @@ not_both bytes project key rule is fault =
     absurd (let e = sym is.2 ∙ ap (λ d. shape_fault (table d)) same ∙ fault.2 in cc)
 
 pub of_checked : (w : Work) (files : Files) (name bytes : List ℕ) (project : Project) (reply : Reply) → IsProject bytes project → OfBytes w files name bytes reply
-    → AfterFiles files (file_names_of project.files) (OfFiles w bytes project) reply
+    → AfterFiles files (file_names_of project.files) (OfFiles w name bytes project) reply
 of_checked w files name bytes project reply is (inl p) = absurd (p.0 is.0 is.1)
 of_checked w files name bytes project reply is (inr (inl p)) = not_both bytes project p.0 p.1 is p.2
 of_checked w files name bytes project reply is (inr (inr p)) =
-    subst (λ q. AfterFiles files (file_names_of q.files) (OfFiles w bytes q) reply) (same_checked bytes p.0 project p.1 is) p.2
+    subst (λ q. AfterFiles files (file_names_of q.files) (OfFiles w name bytes q) reply) (same_checked bytes p.0 project p.1 is) p.2
 
 -- files that are held lead on
 pub past_files : (files : Files) (names contents : List (List ℕ)) (next : List (List ℕ) → Reply → Type 0) (reply : Reply) → AllHold files names contents
@@ -69,7 +69,7 @@ bytes_fail w files project_name name line reply reads fails after =
     ⊎_elim (λ e. at_read files project_name line (OfBytes w files project_name) reply (subst (λ n. Fails files n line) e fails) after)
     (λ q.
     let behind = of_checked w files project_name q.0 q.1 reply q.3 (past_read files project_name q.0 (OfBytes w files project_name) reply q.2 after) in
-    files_fail files (file_names_of q.1.files) (OfFiles w q.0 q.1) name line reply q.4 fails behind)
+    files_fail files (file_names_of q.1.files) (OfFiles w project_name q.0 q.1) name line reply q.4 fails behind)
     reads
 
 -- words that ask for something ask for one thing alone

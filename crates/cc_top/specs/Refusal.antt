@@ -4,8 +4,6 @@ use Rattle.std.specs.FinMap.{get}
 use Rattle.std.specs.Fmt.{decimal}
 use Rattle.cc_front.specs.declared.fault.Fault.{Fault}
 use Rattle.cc_front.specs.declared.fault.Fault.TheVariants as fault
-use Rattle.cc_front.specs.declared.fault.FrontFault.{FrontFault}
-use Rattle.cc_front.specs.declared.fault.FrontFault.TheVariants as front
 use Rattle.cc_base.specs.declared.place.Spot.{Spot}
 use Rattle.cc_io.specs.Shelf.{Files}
 use Rattle.cc_prep.specs.declared.fault.PrepFault.{PrepFault}
@@ -166,11 +164,6 @@ refusal_of (prep.ReadFault file) = ReadFault file
 refusal_of (prep.Missing file) = Missing file
 refusal_of (prep.TooLong file) = TooLong file
 refusal_of prep.Memory = Memory
-
--- the refusal that a fault of the front end is
-abbrev pub IsOfFront : FrontFault → Refusal → Type 0
-IsOfFront (front.Expansion why) refused = (refused ≡ refusal_of why) ⊎ IsOfInput refused
-IsOfFront _ refused = IsOfInput refused
 
 -- the reading of these files in their order is refused so
 abbrev pub RefusesOne : Files → List (List ℕ) → Refusal → Type 0

@@ -37,7 +37,7 @@ fn table<S: Shelf>(
     ensures caused { IfErr result (IsCaused (counts_of (S.faults shelf.old) (S.misses shelf.old) (S.longs shelf.old))
         (counts_of (S.faults shelf.new) (S.misses shelf.new) (S.longs shelf.new))) }
     ensures told { IfSome (S.files shelf.old) (λ held. IfErr result (IsToldIn held files.now)) }
-    ensures table { IfOk result spec.IsMade }
+    ensures listed { IfOk result spec.IsListed }
 {
     match front(alloc, shelf, project, files) {
         Ok(built) => Ok(list_text(alloc, &built.program)),
@@ -57,7 +57,7 @@ fn whole_listed<S: Shelf>(
     ensures keeps { S.files shelf.new ≡ S.files shelf.old }
     ensures none_falls { NoneFalls (counts_of (S.faults shelf.old) (S.misses shelf.old) (S.longs shelf.old))
         (counts_of (S.faults shelf.new) (S.misses shelf.new) (S.longs shelf.new)) }
-    ensures told { Tells OfWhole result }
+    ensures told { Tells (OfWhole project.now) result }
     ensures caused { IfErr result (Caused (counts_of (S.faults shelf.old) (S.misses shelf.old) (S.longs shelf.old))
         (counts_of (S.faults shelf.new) (S.misses shelf.new) (S.longs shelf.new))) }
     ensures kind { IfErr result (λ refusal. status_of refusal ≢ 2) }

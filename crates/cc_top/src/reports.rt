@@ -72,7 +72,7 @@ fn built_reported(
     built: &Built,
 ) -> Result<Output, Refusal>
     requires bound { AreBound built.now.program project.now.tests built.now.tests }
-    ensures told { Tells (OfReport what project.now) result }
+    ensures told { Tells (OfReport what name.now project.now) result }
     ensures input { IfErr result IsOfInput }
 {
     let justified = match justifications(alloc, project) {
@@ -108,7 +108,7 @@ pub fn files_reported<S: Shelf>(
     ensures keeps { S.files shelf.new ≡ S.files shelf.old }
     ensures none_falls { NoneFalls (counts_of (S.faults shelf.old) (S.misses shelf.old) (S.longs shelf.old))
         (counts_of (S.faults shelf.new) (S.misses shelf.new) (S.longs shelf.new)) }
-    ensures told { Tells (OfReport what project.now) result }
+    ensures told { Tells (OfReport what name.now project.now) result }
     ensures caused { IfErr result (Caused (counts_of (S.faults shelf.old) (S.misses shelf.old) (S.longs shelf.old))
         (counts_of (S.faults shelf.new) (S.misses shelf.new) (S.longs shelf.new))) }
     ensures kind { IfErr result (λ refusal. status_of refusal ≢ 2) }

@@ -43,7 +43,7 @@ fn files_text<S: Shelf>(
     ensures keeps { S.files shelf.new ≡ S.files shelf.old }
     ensures none_falls { NoneFalls (counts_of (S.faults shelf.old) (S.misses shelf.old) (S.longs shelf.old))
         (counts_of (S.faults shelf.new) (S.misses shelf.new) (S.longs shelf.new)) }
-    ensures told { Tells (OfFiles work bytes.now project.now files.now) result }
+    ensures told { Tells (OfFiles work name.now bytes.now project.now files.now) result }
     ensures caused { IfErr result (Caused (counts_of (S.faults shelf.old) (S.misses shelf.old) (S.longs shelf.old))
         (counts_of (S.faults shelf.new) (S.misses shelf.new) (S.longs shelf.new))) }
     ensures kind { IfErr result (λ refusal. status_of refusal ≢ 2) }
@@ -70,7 +70,7 @@ fn project_text<S: Shelf>(
     ensures none_falls { NoneFalls (counts_of (S.faults shelf.old) (S.misses shelf.old) (S.longs shelf.old))
         (counts_of (S.faults shelf.new) (S.misses shelf.new) (S.longs shelf.new)) }
     ensures told { IfSome (S.files shelf.old) (λ files.
-        Tells (AfterFiles files (file_names_of project.now.files) (OfFiles work bytes.now project.now)) result) }
+        Tells (AfterFiles files (file_names_of project.now.files) (OfFiles work name.now bytes.now project.now)) result) }
     ensures caused { IfErr result (Caused (counts_of (S.faults shelf.old) (S.misses shelf.old) (S.longs shelf.old))
         (counts_of (S.faults shelf.new) (S.misses shelf.new) (S.longs shelf.new))) }
     ensures kind { IfErr result (λ refusal. status_of refusal ≢ 2) }

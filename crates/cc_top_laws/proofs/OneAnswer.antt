@@ -93,7 +93,7 @@ of_first files name first reply answer =
     let names = file_names_of checked.files in
     let read = past_read files name bytes (OfBytes work.List files name) reply first.3 (asked (list_words name) files task.List name reply refl answer) in
     let after = of_checked work.List files name bytes checked reply first.4 read in
-    let of : OfListed bytes checked contents reply = past_files files names contents (OfFiles work.List bytes checked) reply first.5 after in
+    let of : OfListed bytes checked contents reply = past_files files names contents (OfFiles work.List name bytes checked) reply first.5 after in
     ⊎_elim (λ p. moved bytes names contents p.0 first.6 reply p.1) (λ p. absurd (p.0 first.6)) of
 
 one_listed : (files : Files) (name : List ℕ) (a b : Reply) → IsOfFirstForm files name → IsAnswer (list_words name) files a → IsAnswer (list_words name) files b → a ≡ b
