@@ -37,15 +37,19 @@ abbrev pub first_unknown : Program → List Coupling → Option (List Justified)
 first_unknown P rows (Some list) = justifying.first_unknown P rows list
 first_unknown P rows None = None
 
--- what the runs of the tests over the acts of the program exercise of the rows
+-- the program has a listing, and each justification has a row of it
+abbrev pub HasRows : Program → Option (List Justified) → Type 0
+HasRows P justified = (rows : List Coupling) × IsListed P rows × (first_unknown P rows justified ≡ None)
+
+-- what the runs of the tests over some acts exercise of the rows; that these acts are the program's no definition says yet
 abbrev pub AreScores : Program → List Coupling → List Test → Scores → Type 0
 AreScores P rows tests scores = (acts : Acts) × IsScored P acts rows tests scores
 
--- the machine is lost in a test's run over the acts of the program
+-- the machine is lost in a test's run over some acts
 abbrev pub IsAstray : List Test → Type 0
 IsAstray tests = (acts : Acts) × AnyIsLost acts tests
 
--- the program, or acts over which it would be run, are not as a recorder needs them
+-- the program, or some acts, are not as a recorder needs them
 abbrev pub IsUnfitted : Program → Type 0
 IsUnfitted P = (acts : Acts) × IsUnfit P acts
 

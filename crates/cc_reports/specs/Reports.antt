@@ -12,7 +12,7 @@ use Rattle.cc_score.specs.declared.clash.Conflict.{Conflict}
 use Rattle.cc_reports.specs.declared.fault.ReportFault.{ReportFault}
 use Rattle.cc_reports.specs.declared.fault.ReportFault.TheVariants as fault
 use Rattle.cc_reports.specs.declared.kinds.Report.{Report}
-use Rattle.cc_reports.specs.Found.{AreScores, IsAstray, IsConflict, IsFound, IsListed, IsUnfitted, first_unknown, reasons_of}
+use Rattle.cc_reports.specs.Found.{AreScores, HasRows, IsAstray, IsConflict, IsFound, IsListed, IsUnfitted, first_unknown, reasons_of}
 use Rattle.cc_reports.specs.Texts.{IsText, is_met}
 
 -- The text is what the command prints of the program and its tests, and the flag tells whether the criteria are met.
@@ -38,11 +38,12 @@ pub record IsCovered (P : Program) (tests : List Test) (justified : Option (List
   pub scored : AreScores P rows tests scores
   pub conflict : IsConflict scores.marks (reasons_of P rows justified) c
 
--- why there is no report; of want of memory nothing is said
+-- Why there is no report; of want of memory nothing is said. `Internal` of a listing should not come (docs/open.md), and nothing
+-- is said of it.
 abbrev pub IsRefused : Program → List Test → Option (List Justified) → ReportFault → Type 0
 IsRefused P tests justified (fault.List why) = RefusedWhole P why
 IsRefused P tests justified (fault.NoSuchRow index) = IsUnknown P justified index
 IsRefused P tests justified (fault.Covered conflict) = IsCovered P tests justified conflict
-IsRefused P tests justified fault.Lost = IsAstray tests
-IsRefused P tests justified fault.Unfit = IsUnfitted P
+IsRefused P tests justified fault.Lost = HasRows P justified × IsAstray tests
+IsRefused P tests justified fault.Unfit = HasRows P justified × IsUnfitted P
 IsRefused P tests justified fault.Memory = Unit {0}
