@@ -13,8 +13,8 @@ import argparse, collections, os, pathlib, random, shutil, subprocess, sys, temp
 
 sys.path.insert(0, str(pathlib.Path(__file__).resolve().parent))
 import small_c
-from small_c import CALLBACK, INT, NODE, PAIR, VOID, Function, Machine, Node, Variable, Writer, array, common, integer, pointer
-from small_c import promoted
+from small_c import (CALLBACK, INT, NODE, PAIR, VOID, Function, Machine, Node, Variable, Writer, array, common, integer,
+                     pointer, promoted)
 
 KINDS = ["int", "int", "int", "int", "unsigned", "long", "char", "unsigned char", "short", "_Bool", "unsigned long"]
 TEXT = pointer(integer("char"))
@@ -191,7 +191,7 @@ class Maker:
                     break
             if e is None or not wanted(e.type) or variable is self.inside:
                 continue
-            if direct and (writing and (variable.constant or variable.fixed) or address and (variable.plain or variable.fixed)):
+            if direct and (variable.fixed and (writing or address) or variable.plain and address):
                 continue
             # Rows of two string literals that one place writes have one text, so none is written.
             if writing and not direct and e.type == integer("char"):

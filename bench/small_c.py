@@ -68,11 +68,14 @@ class Node:
 
 
 class Variable:
-    """An object's declarator. `life` is static, local or formal; of a `plain` one no address is taken."""
+    """An object's declarator. `life` is static, local or formal; of a `plain` one no address is taken.
 
-    def __init__(self, name, type, life, value=None, internal=False, constant=False, plain=True):
+    An `internal` one is declared with `static`; a `fixed` one is written by its loop alone.
+    """
+
+    def __init__(self, name, type, life, value=None, internal=False, plain=True):
         self.name, self.type, self.life, self.value = name, type, life, value
-        self.internal, self.constant, self.plain = internal, constant, plain
+        self.internal, self.plain = internal, plain
         self.place, self.file, self.fixed = None, None, False
 
 
@@ -166,8 +169,6 @@ class Writer:
     def declaration(self, it):
         if it.internal:
             self.put("static ")
-        if it.constant:
-            self.put("const ")
         self.declarator(it)
         if it.value is not None:
             self.put(" = ")
@@ -680,7 +681,7 @@ class Machine:
     def declare(self, it, made):
         if it.life == "static":
             return
-        instance = self.make(it, [UNWRITTEN] * cells(it.type), it.constant)
+        instance = self.make(it, [UNWRITTEN] * cells(it.type))
         self.names[it] = instance
         made.append(instance)
         if it.value is not None:
@@ -778,8 +779,7 @@ class Machine:
     def run(self, calls):
         try:
             for it in self.project.statics:
-                string = isinstance(it, Node)
-                self.static[it] = self.make(it, [UNWRITTEN] * cells(it.type), string or it.constant)
+                self.static[it] = self.make(it, [UNWRITTEN] * cells(it.type), isinstance(it, Node))
             for it in self.project.statics:
                 self.fill(self.static[it], it, self.static_values(it))
             for function, values in calls:
