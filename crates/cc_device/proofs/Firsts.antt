@@ -1,5 +1,5 @@
 -- The first of two lists of rules that fails, and the fault that reports it.
-use Rattle.std.proofs.Common.{◌≡◌, ℕ, Bool, true, false, cond, List, [], ◌∷◌, ◌++◌, Option, Some, None, Result, Ok, Err, IfErr, IsErrAnd, refl, ap, subst, sym, ◌∙◌}
+use Rattle.std.proofs.Common.{◌≡◌, Bool, true, false, cond, List, [], ◌∷◌, ◌++◌, Option, Some, None, Result, Ok, Err, IfErr, IsErrAnd, subst, sym, ◌∙◌}
 use Rattle.cc_project.specs.Order.{Rule, first_failing}
 use Rattle.cc_project.proofs.Firsts.{Fault, first-none}
 use Rattle.cc_device.specs.Outcome.{Reports}

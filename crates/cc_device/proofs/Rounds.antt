@@ -45,7 +45,7 @@ device_holds environment i names functions names' functions' vs value whole belo
     ap (λ seen. first_failing (devices_rules environment (i + 1) seen functions' (all_data (drop (i + 1) vs)))) named
     ∙ ap (λ seen. first_failing (devices_rules environment (i + 1) (names ++ name_of (view value) ∷ []) seen (all_data (drop (i + 1) vs)))) worked
     ∙ round_holds _ (device_rules environment i names functions (view value)) _ whole left
-        (ap (λ ds. first_failing (devices_rules environment i names functions ds)) (data_left vs i value below is)) none
+    (ap (λ ds. first_failing (devices_rules environment i names functions ds)) (data_left vs i value below is)) none
 
 none_of_none : first_failing [] ≡ None
 unfolding first_failing

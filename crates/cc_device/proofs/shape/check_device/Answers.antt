@@ -31,8 +31,8 @@ returns-in_err-check_functions-2-clause-err c = passed_up c.from_residual-in_err
     (sym (moved _ _ 2 _ _ refl (test_name_holds _ _ c.args.names.now _ _ _ c.is_device_name-is_named.ensures c.in_ok-is_new.ensures.value c.text_in.ensures c.at_key-name.ensures)) ∙ c.in_ok-demand.ensures.ok)
     (sym (ap (λ v. first_failing (function_rules c.args.environment.now (member_text c.args.i (codes "writes")) 3 c.args.functions.now v)) c.at_key-writes.ensures) ∙ c.in_ok-check_functions.ensures.ok)
     (Reports-same _ _ _
-        (ap (λ seen. first_failing (function_rules c.args.environment.now (member_text c.args.i (codes "reads")) 4 seen (data_in c.at_key-reads.result))) (c.in_ok-check_functions.ensures.functions ∙ ap (λ v. c.args.functions.now ++ texts_in v) c.at_key-writes.ensures)
-        ∙ ap (λ v. first_failing (function_rules c.args.environment.now (member_text c.args.i (codes "reads")) 4 (c.args.functions.now ++ writes_of (view c.args.device.now)) v)) c.at_key-reads.ensures) c.in_err-check_functions-2.ensures.err))
+    (ap (λ seen. first_failing (function_rules c.args.environment.now (member_text c.args.i (codes "reads")) 4 seen (data_in c.at_key-reads.result))) (c.in_ok-check_functions.ensures.functions ∙ ap (λ v. c.args.functions.now ++ texts_in v) c.at_key-writes.ensures)
+    ∙ ap (λ v. first_failing (function_rules c.args.environment.now (member_text c.args.i (codes "reads")) 4 (c.args.functions.now ++ writes_of (view c.args.device.now)) v)) c.at_key-reads.ensures) c.in_err-check_functions-2.ensures.err))
 
 pub returns-in_err-demand-2-clause-err : goal.returns-in_err-demand-2-clause-err
 unfolding device_rules
@@ -41,9 +41,9 @@ returns-in_err-demand-2-clause-err c = passed_up c.from_residual-in_err-demand-2
     (sym (moved _ _ 2 _ _ refl (test_name_holds _ _ c.args.names.now _ _ _ c.is_device_name-is_named.ensures c.in_ok-is_new.ensures.value c.text_in.ensures c.at_key-name.ensures)) ∙ c.in_ok-demand.ensures.ok)
     (sym (ap (λ v. first_failing (function_rules c.args.environment.now (member_text c.args.i (codes "writes")) 3 c.args.functions.now v)) c.at_key-writes.ensures) ∙ c.in_ok-check_functions.ensures.ok)
     (sym
-        (ap (λ seen. first_failing (function_rules c.args.environment.now (member_text c.args.i (codes "reads")) 4 seen (data_in c.at_key-reads.result))) (c.in_ok-check_functions.ensures.functions ∙ ap (λ v. c.args.functions.now ++ texts_in v) c.at_key-writes.ensures)
-        ∙ ap (λ v. first_failing (function_rules c.args.environment.now (member_text c.args.i (codes "reads")) 4 (c.args.functions.now ++ writes_of (view c.args.device.now)) v)) c.at_key-reads.ensures)
-        ∙ c.in_ok-check_functions-2.ensures.ok)
+    (ap (λ seen. first_failing (function_rules c.args.environment.now (member_text c.args.i (codes "reads")) 4 seen (data_in c.at_key-reads.result))) (c.in_ok-check_functions.ensures.functions ∙ ap (λ v. c.args.functions.now ++ texts_in v) c.at_key-writes.ensures)
+    ∙ ap (λ v. first_failing (function_rules c.args.environment.now (member_text c.args.i (codes "reads")) 4 (c.args.functions.now ++ writes_of (view c.args.device.now)) v)) c.at_key-reads.ensures)
+    ∙ c.in_ok-check_functions-2.ensures.ok)
     (Reports-same _ _ _ (moved _ _ 5 _ _ refl c.has_only-is_all.ensures) c.in_err-demand-2.ensures.err))
 
 pub returns-clause-ok : goal.returns-clause-ok
@@ -52,9 +52,9 @@ returns-clause-ok c = all_hold_4 _ _ _ _
     (sym (moved _ _ 2 _ _ refl (test_name_holds _ _ c.args.names.now _ _ _ c.is_device_name-is_named.ensures c.in_ok-is_new.ensures.value c.text_in.ensures c.at_key-name.ensures)) ∙ c.in_ok-demand.ensures.ok)
     (sym (ap (λ v. first_failing (function_rules c.args.environment.now (member_text c.args.i (codes "writes")) 3 c.args.functions.now v)) c.at_key-writes.ensures) ∙ c.in_ok-check_functions.ensures.ok)
     (sym
-        (ap (λ seen. first_failing (function_rules c.args.environment.now (member_text c.args.i (codes "reads")) 4 seen (data_in c.at_key-reads.result))) (c.in_ok-check_functions.ensures.functions ∙ ap (λ v. c.args.functions.now ++ texts_in v) c.at_key-writes.ensures)
-        ∙ ap (λ v. first_failing (function_rules c.args.environment.now (member_text c.args.i (codes "reads")) 4 (c.args.functions.now ++ writes_of (view c.args.device.now)) v)) c.at_key-reads.ensures)
-        ∙ c.in_ok-check_functions-2.ensures.ok)
+    (ap (λ seen. first_failing (function_rules c.args.environment.now (member_text c.args.i (codes "reads")) 4 seen (data_in c.at_key-reads.result))) (c.in_ok-check_functions.ensures.functions ∙ ap (λ v. c.args.functions.now ++ texts_in v) c.at_key-writes.ensures)
+    ∙ ap (λ v. first_failing (function_rules c.args.environment.now (member_text c.args.i (codes "reads")) 4 (c.args.functions.now ++ writes_of (view c.args.device.now)) v)) c.at_key-reads.ensures)
+    ∙ c.in_ok-check_functions-2.ensures.ok)
     (sym (moved _ _ 5 _ _ refl c.has_only-is_all.ensures) ∙ c.in_ok-demand-2.ensures.ok)
 
 pub returns-clause-names : goal.returns-clause-names
