@@ -1,7 +1,6 @@
 -- Devices as slots: each call of a function that writes a device is a write by name of its slot, each call of a function that
 -- reads it a read by name.
-use Rattle.std.specs.Prelude.{ℕ, ◌+◌, true, List, [], ◌∷◌}
-use Rattle.cc_arena.specs.declared.arena.Placed.{Placed}
+use Rattle.std.specs.Prelude.{ℕ, zero, suc, true, List, [], ◌∷◌, ◌++◌, length}
 use Rattle.cc_device.specs.declared.device.Device.{Device}
 use Rattle.cc_listed.specs.declared.table.Kind.TheVariants as kind
 use Rattle.cc_listed.specs.declared.table.Occurrence.{Occurrence}
@@ -10,15 +9,15 @@ use Rattle.cc_listed.specs.declared.table.Tables.{Tables}
 use Rattle.cc_program.specs.declared.program.Program.{Program}
 use Rattle.cc_roles.specs.Components.{component}
 
--- a slot for each of these devices, the first of which is number v
-abbrev pub slots_from : ℕ → List Device → List Slot
-slots_from v [] = []
-slots_from v (device ∷ rest) = record { object = v; kind = kind.Named } ∷ slots_from (v + 1) rest
+-- a slot for each of so many devices
+abbrev pub slots_to : ℕ → List Slot
+slots_to zero = []
+slots_to (suc n) = slots_to n ++ record { object = n; kind = kind.Named } ∷ []
 
--- the component of each of these nodes, the first of which is number n
-abbrev pub occurrences_from : Program → ℕ → List Placed → List Occurrence
-occurrences_from P n [] = []
-occurrences_from P n (x ∷ xs) = record { component = component P n; by_name = true } ∷ occurrences_from P (n + 1) xs
+-- the component of each of so many nodes
+abbrev pub occurrences_to : Program → ℕ → List Occurrence
+occurrences_to P zero = []
+occurrences_to P (suc n) = occurrences_to P n ++ record { component = component P n; by_name = true } ∷ []
 
 abbrev pub tables_of : Program → List Device → Tables
-tables_of P devices = record { slots = slots_from 0 devices; occurrences = occurrences_from P 0 P.arena.nodes }
+tables_of P devices = record { slots = slots_to (length devices); occurrences = occurrences_to P (length P.arena.nodes) }

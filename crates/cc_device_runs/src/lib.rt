@@ -20,7 +20,7 @@ mod table;
 mod tables;
 mod watching;
 
-pub use fault::DeviceReportFault;
+pub use fault::{DeviceReportFault, MarkFault};
 pub use listing::list_devices;
 pub use marking::mark_devices;
 pub use reporting::{DeviceReport, report_devices};
