@@ -1,5 +1,5 @@
 // Which calls write and read which devices.
-ghost use Rattle.std.specs.Prelude.{◌≡◌, ◌<◌, ◌^◌, IfOk, OnOk, length};
+ghost use Rattle.std.specs.Prelude.{◌≡◌, ◌<◌, ◌^◌, [], IfOk, OnOk, length};
 ghost use Rattle.cc_device_runs.specs.Asking as spec;
 
 use crate::asked::asked;
