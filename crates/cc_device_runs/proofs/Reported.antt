@@ -14,5 +14,5 @@ use Rattle.cc_device_runs.specs.declared.reporting.DeviceReport.{DeviceReport}
 pub report_of : (P : Program) (tests : List Test) (devices : List Device) (G : Graph) (F : Facts) (r : Result DeviceReport DeviceReportFault)
     → IsGraph P G → AreFacts P F → IfOk r (λ made. IsReportBy P tests devices G F made.text.items made.is_met)
     → IfOk r (λ made. IsReport P tests devices made.text.items made.is_met)
-report_of P tests devices G F (Ok made) graph facts report = (G, graph, F, facts, report)
+report_of P tests devices G F (Ok made) graph facts report = (G, graph, (F, facts, report))
 report_of P tests devices G F (Err fault) graph facts report = tt
