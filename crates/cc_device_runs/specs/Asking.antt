@@ -39,22 +39,23 @@ access_if (Some p) (Some v) n out = out ++ record { point = p; slot = v; occurre
 access_if (Some p) None n out = out
 access_if None device n out = out
 
--- the calls that write devices among these nodes, the first of which is number n, behind others: each with the point at which it
--- is made and the device
-abbrev pub writes_in : Program → Graph → List Role → List Placed → ℕ → List Access → List Access
-writes_in P G roles [] n out = out
-writes_in P G roles (x ∷ xs) n out =
-    writes_in P G roles xs (n + 1) (access_if (number G.rows (At n)) (node_role P roles x.node).writes n out)
+-- the calls that work so on devices among these nodes, the first of which is number n, behind others: each with the point at
+-- which it is made and the device
+abbrev pub accesses_in : (Role → Option ℕ) → Program → Graph → List Role → List Placed → ℕ → List Access → List Access
+accesses_in work P G roles [] n out = out
+accesses_in work P G roles (x ∷ xs) n out =
+    accesses_in work P G roles xs (n + 1) (access_if (number G.rows (At n)) (work (node_role P roles x.node)) n out)
 
--- the calls that read them
-abbrev pub reads_in : Program → Graph → List Role → List Placed → ℕ → List Access → List Access
-reads_in P G roles [] n out = out
-reads_in P G roles (x ∷ xs) n out =
-    reads_in P G roles xs (n + 1) (access_if (number G.rows (At n)) (node_role P roles x.node).reads n out)
+abbrev pub writes_by : Role → Option ℕ
+writes_by role = role.writes
 
--- those of a program whose functions do this with devices
+abbrev pub reads_by : Role → Option ℕ
+reads_by role = role.reads
+
+-- the calls of a program that write devices, where its functions do this with devices
 abbrev pub writes_of : Program → Graph → List Role → List Access
-writes_of P G roles = writes_in P G roles P.arena.nodes 0 []
+writes_of P G roles = accesses_in writes_by P G roles P.arena.nodes 0 []
 
+-- the calls that read devices
 abbrev pub reads_of : Program → Graph → List Role → List Access
-reads_of P G roles = reads_in P G roles P.arena.nodes 0 []
+reads_of P G roles = accesses_in reads_by P G roles P.arena.nodes 0 []

@@ -54,7 +54,7 @@ fn writes_in(
     nodes: &[Placed],
 ) -> Result<Vec<Access>, Memory>
     requires { length nodes.now < 2 ^ 32 }
-    ensures { IfOk result (λ out. out.items ≡ spec.writes_in program.now graph.now roles.now nodes.now 0 []) }
+    ensures { IfOk result (λ out. out.items ≡ spec.accesses_in spec.writes_by program.now graph.now roles.now nodes.now 0 []) }
 {
     let mut out = Vec::new(alloc);
     for (n, placed) in nodes.iter().enumerate() {
@@ -73,7 +73,7 @@ fn reads_in(
     nodes: &[Placed],
 ) -> Result<Vec<Access>, Memory>
     requires { length nodes.now < 2 ^ 32 }
-    ensures { IfOk result (λ out. out.items ≡ spec.reads_in program.now graph.now roles.now nodes.now 0 []) }
+    ensures { IfOk result (λ out. out.items ≡ spec.accesses_in spec.reads_by program.now graph.now roles.now nodes.now 0 []) }
 {
     let mut out = Vec::new(alloc);
     for (n, placed) in nodes.iter().enumerate() {
