@@ -1,7 +1,8 @@
 // The program of a project and its tests.
-ghost use Rattle.std.specs.Prelude.{◌≡◌, ◌≤◌, All, IfErr, IfSome, length};
+ghost use Rattle.std.specs.Prelude.{◌≡◌, ◌≤◌, All, IfErr, IfOk, IfSome, length};
 ghost use Rattle.cc_prep.specs.Faults.{NoneFalls, counts_of};
 ghost use Rattle.cc_front.specs.Faults.{IsCaused, IsOther, IsToldIn};
+ghost use Rattle.cc_tests.specs.Bound.{AreBound};
 
 use crate::fault::{Fault, FrontFault};
 use crate::files::check_files;
@@ -65,7 +66,8 @@ fn unbound(fault: TestFault) -> FrontFault
 
 // The program with the project's tests.
 fn with_tests(alloc: Global, project: &Project, program: Program) -> Result<Built, FrontFault>
-    ensures { IfErr result IsOther }
+    ensures bound { IfOk result (λ built. AreBound built.program project.now.tests built.tests) }
+    ensures other { IfErr result IsOther }
 {
     match bind_tests(alloc, project, &program) {
         Ok(tests) => Ok(Built { program, tests }),
@@ -94,6 +96,7 @@ pub fn front<S: Shelf>(
     ensures caused { IfErr result (IsCaused (counts_of (S.faults shelf.old) (S.misses shelf.old) (S.longs shelf.old))
         (counts_of (S.faults shelf.new) (S.misses shelf.new) (S.longs shelf.new))) }
     ensures told { IfSome (S.files shelf.old) (λ held. IfErr result (IsToldIn held files.now)) }
+    ensures bound { IfOk result (λ built. AreBound built.program project.now.tests built.tests) }
 {
     let mut arena = Arena::new(alloc);
     let checked = check_files(alloc, shelf, project, files, &mut arena)?;

@@ -8,12 +8,13 @@ use Rattle.cc_project.specs.Project.{Project}
 use Rattle.cc_project.specs.Outcome.{IsProject}
 use Rattle.cc_project.specs.WellMade.{file_names_of}
 use Rattle.cc_top.proofs.Tells.{Outcome, after_read, names_weaker, tells_weaker}
-use Rattle.cc_top.specs.Answer.{Reply, AfterRead, AfterFiles, OfBytes, OfChecked, OfFiles, OfWhole, refused}
+use Rattle.cc_top.specs.Answer.{Reply, AfterRead, AfterFiles, OfBytes, OfFiles, Refuses, refused, reply_of}
+use Rattle.cc_top.specs.Refused.{IsRefusal}
 use Rattle.cc_top.specs.Holds.{AllHold, AddsHeld}
 use Rattle.cc_top.specs.Reads.{IsIncludedIn, IsReached, MayBeReached}
 use Rattle.cc_top.specs.Refusal.{FaultNames, IsOfInput, RefusesOne, RefusesRead, line_of, status_of, missing_line, long_line}
-use Rattle.cc_top.specs.Tells.{Tells, IsNamed, reply_of}
-use Rattle.cc_top.specs.declared.words.Task.{Task}
+use Rattle.cc_top.specs.Tells.{Tells, IsNamed}
+use Rattle.cc_top.specs.declared.work.Work.{Work}
 use Rattle.cc_top.specs.declared.refusal.Refusal.{Refusal}
 use Rattle.cc_top.specs.declared.refusal.Refusal.TheVariants as why
 
@@ -76,7 +77,9 @@ read_refused files name next (why.Entry told rule) h below = absurd h
 read_refused files name next (why.Environment told rule) h below = absurd h
 read_refused files name next (why.Test test call rule) h below = absurd h
 read_refused files name next why.TooManyNodes h below = absurd h
-read_refused files name next why.Internal h below = absurd h
+read_refused files name next (why.NoSuchRow told index) h below = absurd h
+read_refused files name next (why.Covered told index row test) h below = absurd h
+read_refused files name next (why.Internal what) h below = absurd h
 
 one_refused : (files : Files) (names : List (List ℕ)) (next : List (List ℕ) → Reply → Type 0) (refusal : Refusal) → RefusesOne files names refusal → status_of refusal < 4
     → AfterFiles files names next (reply_of refusal)
@@ -107,7 +110,9 @@ names_read files name (why.Entry told rule) h = tt
 names_read files name (why.Environment told rule) h = tt
 names_read files name (why.Test test call rule) h = tt
 names_read files name why.TooManyNodes h = tt
-names_read files name why.Internal h = tt
+names_read files name (why.NoSuchRow told index) h = tt
+names_read files name (why.Covered told index row test) h = tt
+names_read files name (why.Internal what) h = tt
 
 names_one : (files : Files) (names : List (List ℕ)) (refusal : Refusal) → RefusesOne files names refusal → FaultNames (IsReached files names) refusal
 names_one files [] refusal h = absurd h
@@ -145,7 +150,9 @@ input_named P (why.Entry name rule) h = tt
 input_named P (why.Environment name rule) h = tt
 input_named P (why.Test test call rule) h = tt
 input_named P why.TooManyNodes h = tt
-input_named P why.Internal h = tt
+input_named P (why.NoSuchRow told index) h = tt
+input_named P (why.Covered told index row test) h = tt
+input_named P (why.Internal what) h = tt
 input_named P why.Memory h = tt
 
 status_3 : (refusal : Refusal) → status_of refusal ≢ 2 → status_of refusal < 4 → reply_of refusal ≡ refused (line_of refusal) 3
@@ -163,22 +170,23 @@ status_3 (why.Entry name rule) h below = refl
 status_3 (why.Environment name rule) h below = refl
 status_3 (why.Test test call rule) h below = refl
 status_3 why.TooManyNodes h below = refl
-status_3 why.Internal h below = refl
+status_3 (why.NoSuchRow told index) h below = refl
+status_3 (why.Covered told index row test) h below = refl
+status_3 (why.Internal what) h below = refl
 status_3 why.Memory h below = absurd (omega (arith, below))
 
--- a refusal that is not the usage line is an answer to the files
-pub refused_told : (project : Project) (contents : List (List ℕ)) (refusal : Refusal) → status_of refusal ≢ 2 → status_of refusal < 4 → OfChecked project contents (reply_of refusal)
-refused_told project contents refusal h below = inr (line_of refusal, status_3 refusal h below)
-
-pub refused_whole : (refusal : Refusal) → status_of refusal ≢ 2 → status_of refusal < 4 → OfWhole (reply_of refusal)
-refused_whole refusal h below = inr (line_of refusal, status_3 refusal h below)
+-- a refusal that is meant, and that is not the usage line, is the reply where its status is below 4
+pub refuses : (meant refused : Refusal) → status_of refused ≢ 2 → IsRefusal meant refused → status_of refused < 4 → Refuses meant (reply_of refused)
+refuses meant refused kind (inl e) below =
+    (ap status_of (sym e) ∙ ap (λ (r : Reply). r.status) (status_3 refused kind below), ap reply_of e)
+refuses meant refused kind (inr e) below = absurd (omega (arith, subst (λ r. status_of r < 4) e below))
 
 -- what is told of the files is told of the project that names them
-pub document_told : (o : Option Files) (t : Task) (name bytes : List ℕ) (project : Project) (r : Outcome) → IsProject bytes project
-    → IfSome o (λ files. Tells (AfterFiles files (file_names_of project.files) (OfFiles t bytes project)) r) → IfSome o (λ files. Tells (OfBytes t files name bytes) r)
-document_told None t name bytes project r is h = tt
-document_told (Some files) t name bytes project r is h =
-    tells_weaker (AfterFiles files (file_names_of project.files) (OfFiles t bytes project)) (OfBytes t files name bytes) (λ reply of. inr (inr (project, is, of))) r h
+pub document_told : (o : Option Files) (w : Work) (name bytes : List ℕ) (project : Project) (r : Outcome) → IsProject bytes project
+    → IfSome o (λ files. Tells (AfterFiles files (file_names_of project.files) (OfFiles w name bytes project)) r) → IfSome o (λ files. Tells (OfBytes w files name bytes) r)
+document_told None w name bytes project r is h = tt
+document_told (Some files) w name bytes project r is h =
+    tells_weaker (AfterFiles files (file_names_of project.files) (OfFiles w name bytes project)) (OfBytes w files name bytes) (λ reply of. inr (inr (project, is, of))) r h
 
 pub document_named : (o : Option Files) (bytes : List ℕ) (project : Project) (r : Outcome) → IsProject bytes project
     → IfSome o (λ files. IfErr r (FaultNames (MayBeReached files (file_names_of project.files)))) → IfSome o (λ files. IfErr r (FaultNames (IsNamed files bytes)))

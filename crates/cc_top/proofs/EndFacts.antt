@@ -1,5 +1,6 @@
 -- What stands after a put.
-use Rattle.std.proofs.Common.{◌⊎◌, ◌<◌, IfSome, inl, inr, arith, ◌≡◌, ℕ, List, length, [], Option, Some, None, OnOk, IsErrOf, Result, Ok, Err, refl, sym, ap, ◌∙◌}
+use Rattle.std.specs.Prelude.{Bool, true, false}
+use Rattle.std.proofs.Common.{◌≤◌, ◌⊎◌, ◌<◌, IfSome, inl, inr, arith, ◌≡◌, ℕ, List, length, [], Option, Some, None, OnOk, IsErrOf, Result, Ok, Err, refl, sym, ap, ◌∙◌}
 use Rattle.std.specs.Io.KnownBytes.{append_known}
 use Rattle.std.proofs.lemmas.List.{append-nil}
 use Rattle.std.proofs.Math.Seq.{take-length}
@@ -8,15 +9,15 @@ use Rattle.cc_io.specs.Shelf.{Files}
 use Rattle.cc_io.specs.Sink.{GrowsByPrefix}
 use Rattle.cc_io.specs.declared.sink.SinkFault.{SinkFault}
 use Rattle.cc_io.specs.declared.sink.SinkFault.TheVariants.{Failed, Memory}
-use Rattle.cc_top.specs.Answer as Answer
 use Rattle.cc_top.specs.Counts.{Counts}
 use Rattle.cc_top.specs.Run.{Answers, SomeEnd}
-use Rattle.cc_top.specs.Answer.{Reply, IsAnswer}
+use Rattle.cc_top.specs.Answer.{IsAnswer, made, reply_of, status_when}
 use Rattle.cc_top.specs.Reads.{MayRead}
 use Rattle.cc_top.specs.Refusal.{line_of, status_of, FaultNames, IsReadFault}
-use Rattle.cc_top.specs.Tells.{reply_of, EndTells}
+use Rattle.cc_top.specs.Tells.{EndTells}
 use Rattle.cc_top.specs.Ends.{done, refused, write_fault, memory, write_line, Held, EndCaused}
 use Rattle.cc_top.specs.Told.{Told, Reported}
+use Rattle.cc_top.specs.declared.output.Output.{Output}
 use Rattle.cc_top.specs.declared.refusal.Refusal.{Refusal}
 use Rattle.cc_top.specs.declared.refusal.Refusal.TheVariants as why
 
@@ -47,10 +48,15 @@ answered_report (Some files) words refusal out err err' faults faults' result to
       ]
     ]
 
-pub answered_text : (o : Option Files) (words : List (List ℕ)) (text : List ℕ) (out out' err : Option (List ℕ))
-    → IfSome o (λ files. IsAnswer words files (Answer.done text)) → out' ≡ append_known out text → IfSome o (λ files. Answers words files out out' err err 0)
-answered_text None words text out out' err told put = tt
-answered_text (Some files) words text out out' err told put = λ below. (Answer.done text, told, refl, put, append_known-nil err)
+pub answered_output : (o : Option Files) (words : List (List ℕ)) (output : Output) (out out' err : Option (List ℕ)) (result : ℕ) → result ≡ status_when output.is_met
+    → IfSome o (λ files. IsAnswer words files (made output.text.items output.is_met)) → out' ≡ append_known out output.text.items → IfSome o (λ files. Answers words files out out' err err result)
+answered_output None words output out out' err result status told put = tt
+answered_output (Some files) words output out out' err result status told put = λ below. (made output.text.items output.is_met, told, status, put, append_known-nil err)
+
+-- the status of a text is at most 1
+pub status_is_low : (is_met : Bool) → status_when is_met ≤ 1
+status_is_low true = omega arith
+status_is_low false = omega arith
 
 nothing_told : (o : Option Files) (words : List (List ℕ)) → IfSome o (λ files. EndTells (IsAnswer words files) memory)
 nothing_told None words = tt
@@ -65,15 +71,16 @@ end_of_report o words refusal out err err' shelf shelf' result told reads caused
       | inr second ↦ (memory, record { stands = (refl, second); caused = tt }, nothing_told o words, nothing_told o words)
     ]
 
-pub end_of_text : (o : Option Files) (words : List (List ℕ)) (text : List ℕ) (out out' err err' : Held) (shelf shelf' : Counts)
-    → IfSome o (λ files. IsAnswer words files (Answer.done text)) → out'.bytes ≡ append_known out.bytes text → err'.bytes ≡ err.bytes
-    → SomeEnd o words out out' err err' shelf shelf' 0
-end_of_text o words text out out' err err' shelf shelf' told put same = (done text, record { stands = (refl, put, same); caused = tt }, told, nothing_told o words)
+pub end_of_output : (o : Option Files) (words : List (List ℕ)) (output : Output) (out out' err err' : Held) (shelf shelf' : Counts) (result : ℕ) → result ≡ status_when output.is_met
+    → IfSome o (λ files. IsAnswer words files (made output.text.items output.is_met)) → out'.bytes ≡ append_known out.bytes output.text.items → err'.bytes ≡ err.bytes
+    → SomeEnd o words out out' err err' shelf shelf' result
+end_of_output o words output out out' err err' shelf shelf' result status told put same =
+    (done output.text.items output.is_met, record { stands = (status, put, same); caused = tt }, told, nothing_told o words)
 
-pub end_of_write_fault : (o : Option Files) (words : List (List ℕ)) (text : List ℕ) (out out' err err' : Held) (shelf shelf' : Counts)
-    → IfSome o (λ files. IsAnswer words files (Answer.done text)) → Rose out.faults out'.faults → GrowsByPrefix out.bytes out'.bytes text → GrowsByPrefix err.bytes err'.bytes write_line
+pub end_of_write_fault : (o : Option Files) (words : List (List ℕ)) (text : List ℕ) (is_met : Bool) (out out' err err' : Held) (shelf shelf' : Counts)
+    → IfSome o (λ files. IsAnswer words files (made text is_met)) → Rose out.faults out'.faults → GrowsByPrefix out.bytes out'.bytes text → GrowsByPrefix err.bytes err'.bytes write_line
     → SomeEnd o words out out' err err' shelf shelf' 4
-end_of_write_fault o words text out out' err err' shelf shelf' told rose prefix line = (write_fault text, record { stands = (refl, rose, prefix, line); caused = tt }, told, nothing_told o words)
+end_of_write_fault o words text is_met out out' err err' shelf shelf' told rose prefix line = (write_fault text is_met, record { stands = (refl, rose, prefix, line); caused = tt }, told, nothing_told o words)
 
 of_status_4 : (refusal : Refusal) → status_of refusal ≡ 4 → IsReadFault refusal
 of_status_4 (why.ReadFault name) e = tt
@@ -90,7 +97,9 @@ of_status_4 (why.Entry name rule) e = absurd (omega (arith, e))
 of_status_4 (why.Environment name rule) e = absurd (omega (arith, e))
 of_status_4 (why.Test test call rule) e = absurd (omega (arith, e))
 of_status_4 why.TooManyNodes e = absurd (omega (arith, e))
-of_status_4 why.Internal e = absurd (omega (arith, e))
+of_status_4 (why.NoSuchRow told index) e = absurd (omega (arith, e))
+of_status_4 (why.Covered told index row test) e = absurd (omega (arith, e))
+of_status_4 (why.Internal what) e = absurd (omega (arith, e))
 of_status_4 why.Memory e = absurd (omega (arith, e))
 
 -- a status 4 of a report has its count
@@ -123,7 +132,9 @@ of_status_2 (why.Entry name rule) e = absurd (omega (arith, e))
 of_status_2 (why.Environment name rule) e = absurd (omega (arith, e))
 of_status_2 (why.Test test call rule) e = absurd (omega (arith, e))
 of_status_2 why.TooManyNodes e = absurd (omega (arith, e))
-of_status_2 why.Internal e = absurd (omega (arith, e))
+of_status_2 (why.NoSuchRow told index) e = absurd (omega (arith, e))
+of_status_2 (why.Covered told index row test) e = absurd (omega (arith, e))
+of_status_2 (why.Internal what) e = absurd (omega (arith, e))
 of_status_2 why.Memory e = absurd (omega (arith, e))
 
 -- a status 2 of a report is that of the usage line

@@ -1,8 +1,10 @@
 pub mod CheckFacts
 pub mod FrontFacts
 pub mod EndFacts
+pub mod GeneratedFacts
 pub mod ListFacts
 pub mod Reached
+pub mod ReportFacts
 pub mod Sound
 pub mod Tells
 pub mod WordFacts

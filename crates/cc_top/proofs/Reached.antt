@@ -1,5 +1,5 @@
 -- A file that the reading reaches and that is missing or too long is what is refused.
-use Rattle.std.proofs.Common.{◌≡◌, ◌≤◌, ℕ, List, [], ◌∷◌, Option, Some, None, IfSome, inl, inr, ⊎_elim, refl, sym, ap, ◌∙◌, arith, subst}
+use Rattle.std.proofs.Common.{◌≡◌, ◌≤◌, ℕ, cond, nat_eq, List, [], ◌∷◌, Option, Some, None, IfSome, inl, inr, ⊎_elim, refl, sym, ap, ◌∙◌, arith, subst}
 use Rattle.std.specs.Io.KnownBytes.{append_known}
 use Rattle.cc_top.proofs.EndFacts.{append_known-nil}
 use Rattle.cc_top.specs.Run.{Answers, RefusesReached}
@@ -11,10 +11,12 @@ use Rattle.cc_project.specs.Project.{Project, project_of}
 use Rattle.cc_project.specs.Outcome.{IsFault, IsProject}
 use Rattle.cc_project.specs.WellMade.{file_names_of}
 use Rattle.cc_project.specs.declared.fault.ProjectFault.TheVariants.{Shape}
-use Rattle.cc_top.specs.Words.{IsNoCommand, words_of}
+use Rattle.cc_top.specs.Words.{words_of}
 use Rattle.cc_top.specs.declared.words.Task.{Task}
 use Rattle.cc_top.specs.declared.words.Task.TheVariants as task
-use Rattle.cc_top.specs.Answer.{Reply, refused, AfterRead, AfterFiles, OfBytes, OfFiles, IsAnswer}
+use Rattle.cc_top.specs.declared.work.Work.{Work}
+use Rattle.cc_top.proofs.Tells.{no_generated}
+use Rattle.cc_top.specs.Answer.{Reply, refused, AfterRead, AfterFiles, OfBytes, OfFiles, IsAnswer, work_of}
 use Rattle.cc_top.specs.Holds.{AllHold, Holds}
 use Rattle.cc_top.specs.Reads.{IsReached, IsReadFor, Reads, Fails, Lacks, Passes}
 
@@ -36,12 +38,12 @@ not_both bytes project key rule is fault =
     let same = same_Some _ _ (sym is.1.parsed ∙ fault.1.parsed) in
     absurd (let e = sym is.2 ∙ ap (λ d. shape_fault (table d)) same ∙ fault.2 in cc)
 
-pub of_checked : (t : Task) (files : Files) (name bytes : List ℕ) (project : Project) (reply : Reply) → IsProject bytes project → OfBytes t files name bytes reply
-    → AfterFiles files (file_names_of project.files) (OfFiles t bytes project) reply
-of_checked t files name bytes project reply is (inl p) = absurd (p.0 is.0 is.1)
-of_checked t files name bytes project reply is (inr (inl p)) = not_both bytes project p.0 p.1 is p.2
-of_checked t files name bytes project reply is (inr (inr p)) =
-    subst (λ q. AfterFiles files (file_names_of q.files) (OfFiles t bytes q) reply) (same_checked bytes p.0 project p.1 is) p.2
+pub of_checked : (w : Work) (files : Files) (name bytes : List ℕ) (project : Project) (reply : Reply) → IsProject bytes project → OfBytes w files name bytes reply
+    → AfterFiles files (file_names_of project.files) (OfFiles w name bytes project) reply
+of_checked w files name bytes project reply is (inl p) = absurd (p.0 is.0 is.1)
+of_checked w files name bytes project reply is (inr (inl p)) = not_both bytes project p.0 p.1 is p.2
+of_checked w files name bytes project reply is (inr (inr p)) =
+    subst (λ q. AfterFiles files (file_names_of q.files) (OfFiles w name bytes q) reply) (same_checked bytes p.0 project p.1 is) p.2
 
 -- files that are held lead on
 pub past_files : (files : Files) (names contents : List (List ℕ)) (next : List (List ℕ) → Reply → Type 0) (reply : Reply) → AllHold files names contents
@@ -61,41 +63,55 @@ files_fail files (other ∷ others) next name line reply (inr r) fails after =
     files_fail files others (λ rest. next (r.0 ∷ rest)) name line reply r.2 fails
     (past_read files other r.0 (λ bytes. AfterFiles files others (λ rest. next (bytes ∷ rest))) reply r.1 after)
 
-bytes_fail : (t : Task) (files : Files) (project_name name line : List ℕ) (reply : Reply) → IsReadFor files project_name name → Fails files name line
-    → AfterRead files project_name (OfBytes t files project_name) reply → reply ≡ refused line 3
-bytes_fail t files project_name name line reply reads fails after =
-    ⊎_elim (λ e. at_read files project_name line (OfBytes t files project_name) reply (subst (λ n. Fails files n line) e fails) after)
+bytes_fail : (w : Work) (files : Files) (project_name name line : List ℕ) (reply : Reply) → IsReadFor files project_name name → Fails files name line
+    → AfterRead files project_name (OfBytes w files project_name) reply → reply ≡ refused line 3
+bytes_fail w files project_name name line reply reads fails after =
+    ⊎_elim (λ e. at_read files project_name line (OfBytes w files project_name) reply (subst (λ n. Fails files n line) e fails) after)
     (λ q.
-    let behind = of_checked t files project_name q.0 q.1 reply q.3 (past_read files project_name q.0 (OfBytes t files project_name) reply q.2 after) in
-    files_fail files (file_names_of q.1.files) (OfFiles t q.0 q.1) name line reply q.4 fails behind)
+    let behind = of_checked w files project_name q.0 q.1 reply q.3 (past_read files project_name q.0 (OfBytes w files project_name) reply q.2 after) in
+    files_fail files (file_names_of q.1.files) (OfFiles w project_name q.0 q.1) name line reply q.4 fails behind)
     reads
 
 -- words that ask for something ask for one thing alone
 pub same_name : (t u : Task) (p q : List ℕ) → words_of t p ≡ words_of u q → p ≡ q
 same_name t u p q e = cc
 
-pub same_task : (t u : Task) (p q : List ℕ) → words_of t p ≡ words_of u q → t ≡ u
-same_task task.List task.List p q e = refl
-same_task task.Check task.Check p q e = refl
-same_task task.List task.Check p q e = absurd (let f = e in cc)
-same_task task.Check task.List p q e = absurd (let f = e in cc)
+-- the first letter of the first word, and the task that it tells
+letter : List (List ℕ) → ℕ
+letter [] = 0
+letter ([] ∷ words) = 0
+letter ((a ∷ word) ∷ words) = a
 
-no_task : (words : List (List ℕ)) (t : Task) (name : List ℕ) → words ≡ words_of t name → IsNoCommand words → ⊥
-no_task words task.List name is none = (none name).0 is
-no_task words task.Check name is none = (none name).1 is
+task_at : ℕ → Task
+task_at a = cond (nat_eq a 108) task.List (cond (nat_eq a 99) task.Check (cond (nat_eq a 115) task.Score (cond (nat_eq a 116) task.Tests (cond (nat_eq a 112) task.Pairs (cond (nat_eq a 114) task.Reduce task.Order)))))
+
+letter_tells : (t : Task) (name : List ℕ) → task_at (letter (words_of t name)) ≡ t
+unfolding letter task_at
+letter_tells task.List name = refl
+letter_tells task.Check name = refl
+letter_tells task.Score name = refl
+letter_tells task.Tests name = refl
+letter_tells task.Pairs name = refl
+letter_tells task.Reduce name = refl
+letter_tells task.Order name = refl
+
+pub same_task : (t u : Task) (p q : List ℕ) → words_of t p ≡ words_of u q → t ≡ u
+same_task t u p q e = sym (letter_tells t p) ∙ ap (λ words. task_at (letter words)) e ∙ letter_tells u q
 
 -- the answer to words that ask for something
-pub asked : (words : List (List ℕ)) (files : Files) (t : Task) (name : List ℕ) (reply : Reply) → words ≡ words_of t name → IsAnswer words files reply → AfterRead files name (OfBytes t files name) reply
-asked words files t name reply is (inl p) = absurd (no_task words t name is p.0)
-asked words files t name reply is (inr p) =
+pub asked : (words : List (List ℕ)) (files : Files) (t : Task) (name : List ℕ) (reply : Reply) → words ≡ words_of t name → IsAnswer words files reply
+    → AfterRead files name (OfBytes (work_of t) files name) reply
+asked words files t name reply is (inl p) = absurd (p.0.0 t name is)
+asked words files t name reply is (inr (inl p)) =
     let e : words_of p.0 p.1 ≡ words_of t name = sym p.2 ∙ is in
-    let named : AfterRead files name (OfBytes p.0 files name) reply = subst (λ n. AfterRead files n (OfBytes p.0 files n) reply) (same_name p.0 t p.1 name e) p.3 in
-    subst (λ u. AfterRead files name (OfBytes u files name) reply) (same_task p.0 t p.1 name e) named
+    let named : AfterRead files name (OfBytes (work_of p.0) files name) reply = subst (λ n. AfterRead files n (OfBytes (work_of p.0) files n) reply) (same_name p.0 t p.1 name e) p.3 in
+    subst (λ u. AfterRead files name (OfBytes (work_of u) files name) reply) (same_task p.0 t p.1 name e) named
+asked words files t name reply is (inr (inr p)) = absurd (no_generated t name p.0 (sym is ∙ p.2))
 
 pub reached_fails : (words : List (List ℕ)) (files : Files) (name line : List ℕ) (reply : Reply) → Reads words files name → Fails files name line → IsAnswer words files reply
     → reply ≡ refused line 3
 reached_fails words files name line reply reads fails answer =
-    bytes_fail reads.0 files reads.1 name line reply reads.3 fails (asked words files reads.0 reads.1 reply reads.2 answer)
+    bytes_fail (work_of reads.0) files reads.1 name line reply reads.3 fails (asked words files reads.0 reads.1 reply reads.2 answer)
 
 -- so a status below 4 is 3, with that line on err and nothing on out
 pub reached_answer : (o : Option Files) (words : List (List ℕ)) (out out' err err' : Option (List ℕ)) (result : ℕ) → IfSome o (λ files. Answers words files out out' err err' result)

@@ -17,6 +17,7 @@ use Rattle.cc_top.specs.Holds.{AllHold, Holds}
 use Rattle.cc_top.specs.Sound.{CoversRuns, IsOfFirstForm, Listed}
 use Rattle.cc_top.specs.Words.{list_words}
 use Rattle.cc_top.specs.declared.words.Task.TheVariants as task
+use Rattle.cc_top.specs.declared.work.Work.TheVariants as work
 use Rattle.cc_top.specs.Run.{Answers, Covers}
 use Rattle.cc_top.proofs.Reached.{asked, of_checked, past_files, past_read}
 
@@ -75,9 +76,9 @@ table_of words files name reply lists well first answer =
     let bytes = first.0 in
     let checked = first.1 in
     let contents = first.2 in
-    let read = past_read files name bytes (OfBytes task.List files name) reply first.3 (asked words files task.List name reply lists answer) in
-    let after = of_checked task.List files name bytes checked reply first.4 read in
-    let of = past_files files (file_names_of checked.files) contents (OfFiles task.List bytes checked) reply first.5 after in
+    let read = past_read files name bytes (OfBytes work.List files name) reply first.3 (asked words files task.List name reply lists answer) in
+    let after = of_checked work.List files name bytes checked reply first.4 read in
+    let of = past_files files (file_names_of checked.files) contents (OfFiles work.List name bytes checked) reply first.5 after in
     table_of_listed words files name bytes checked contents reply well lists first.3 first.5 first.6 of
 
 -- the line of a row stands behind the lines of the rows before it, of which the first has this number

@@ -1,24 +1,25 @@
 -- What a text or a refusal tells, from one step to the next.
 use Rattle.std.specs.Prelude.{◌↔◌}
-use Rattle.std.proofs.Common.{◌≡◌, ◌≢◌, ◌≤◌, ℕ, List, length, Option, Some, None, IfSome, IfErr, Result, Ok, Err, Vec, Global, inl, inr, refl, subst}
+use Rattle.std.proofs.Common.{◌≡◌, ◌≢◌, ◌≤◌, ◌∙◌, ℕ, List, length, Option, Some, None, IfSome, IfErr, Result, Ok, Err, inl, inr, refl, sym, subst}
 use Rattle.std.specs.FinMap.{get}
 use Rattle.cc_io.specs.Shelf.{Files}
 use Rattle.cc_first.specs.Limit.{limit}
-use Rattle.cc_top.specs.Words.{IsNoCommand, words_of}
+use Rattle.cc_top.specs.Words.{IsCount, IsNoCommand, gen_words, words_of}
 use Rattle.cc_top.specs.declared.words.Task.{Task}
 use Rattle.cc_top.specs.declared.words.Task.TheVariants as task
-use Rattle.cc_top.specs.Answer.{Reply, AfterRead, OfBytes, IsAnswer}
+use Rattle.cc_top.specs.Answer.{Reply, AfterRead, OfBytes, OfGenerated, IsAnswer, work_of}
 use Rattle.cc_top.specs.Reads.{MayBeReadFor, MayRead}
 use Rattle.cc_top.specs.Refusal.{FaultNames, status_of}
 use Rattle.cc_top.specs.Tells.{Tells, IsNamed}
+use Rattle.cc_top.specs.declared.output.Output.{Output}
 use Rattle.cc_top.specs.declared.refusal.Refusal.TheVariants as why
 use Rattle.cc_top.specs.declared.refusal.Refusal.{Refusal}
 
 abbrev pub Outcome : Type 0
-Outcome = Result (Vec ℕ Global) Refusal
+Outcome = Result Output Refusal
 
 pub tells_weaker : (P Q : Reply → Type 0) → ((reply : Reply) → P reply → Q reply) → (r : Outcome) → Tells P r → Tells Q r
-tells_weaker P Q f (Ok text) h = f _ h
+tells_weaker P Q f (Ok output) h = f _ h
 tells_weaker P Q f (Err refusal) h = λ below. f _ (h below)
 
 pub after_read : (files : Files) (name bytes : List ℕ) (next : List ℕ → Reply → Type 0) (reply : Reply) → get files name ≡ Some bytes → length bytes ≤ limit → next bytes reply → AfterRead files name next reply
@@ -33,20 +34,41 @@ read_told (Some files) name bytes next r short held h =
 
 -- what is told of the project is told of the words that ask for it
 pub answer_told : (o : Option Files) (words : List (List ℕ)) (t : Task) (name : List ℕ) (r : Outcome) → words ≡ words_of t name
-    → IfSome o (λ files. Tells (AfterRead files name (OfBytes t files name)) r) → IfSome o (λ files. Tells (IsAnswer words files) r)
+    → IfSome o (λ files. Tells (AfterRead files name (OfBytes (work_of t) files name)) r) → IfSome o (λ files. Tells (IsAnswer words files) r)
 answer_told None words t name r is h = tt
-answer_told (Some files) words t name r is h = tells_weaker (AfterRead files name (OfBytes t files name)) (IsAnswer words files) (λ reply of. inr (t, name, is, of)) r h
+answer_told (Some files) words t name r is h =
+    tells_weaker (AfterRead files name (OfBytes (work_of t) files name)) (IsAnswer words files) (λ reply of. inr (inl (t, name, is, of))) r h
 
-no_task : (words : List (List ℕ)) (t : Task) (name : List ℕ) → words ≡ words_of t name → IsNoCommand words → ⊥
-no_task words task.List name is none = (none name).0 is
-no_task words task.Check name is none = (none name).1 is
+-- what is told of the generated project is told of the words that ask for it
+pub generated_told : (o : Option Files) (words : List (List ℕ)) (n : ℕ) (r : Outcome) → IsCount n → words ≡ gen_words n → Tells (OfGenerated n) r → IfSome o (λ files. Tells (IsAnswer words files) r)
+generated_told None words n r count is h = tt
+generated_told (Some files) words n r count is h = tells_weaker (OfGenerated n) (IsAnswer words files) (λ reply of. inr (inr (n, count, is, of))) r h
+
+-- no task is asked for by the words that ask for a generated project
+pub no_generated : (t : Task) (name : List ℕ) (n : ℕ) → words_of t name ≡ gen_words n → ⊥
+no_generated task.List name n e = let f = e in cc
+no_generated task.Check name n e = let f = e in cc
+no_generated task.Score name n e = let f = e in cc
+no_generated task.Tests name n e = let f = e in cc
+no_generated task.Pairs name n e = let f = e in cc
+no_generated task.Reduce name n e = let f = e in cc
+no_generated task.Order name n e = let f = e in cc
+
+-- so words that ask for a task ask for no generated project
+pub apart : {A : Type 0} (words : List (List ℕ)) (t : Task) (name : List ℕ) (n : ℕ) → words ≡ words_of t name → words ≡ gen_words n → A
+apart words t name n is gen = absurd (no_generated t name n (sym is ∙ gen))
 
 -- a refusal of words that ask for something is not the usage line
 pub answer_usage : (words : List (List ℕ)) (t : Task) (name : List ℕ) (r : Outcome) → words ≡ words_of t name → IfErr r (λ refusal. status_of refusal ≢ 2) → (r ≡ Err why.Usage) ↔ IsNoCommand words
-answer_usage words t name r is kind = (λ e. absurd ((subst (λ (q : Outcome). IfErr q (λ refusal. status_of refusal ≢ 2)) e kind) refl), λ none. absurd (no_task words t name is none))
+answer_usage words t name r is kind = (λ e. absurd ((subst (λ (q : Outcome). IfErr q (λ refusal. status_of refusal ≢ 2)) e kind) refl), λ none. absurd (none.0 t name is))
+
+-- nor is a refusal of words that ask for a generated project
+pub generated_usage : (words : List (List ℕ)) (n : ℕ) (r : Outcome) → IsCount n → words ≡ gen_words n → IfErr r (λ refusal. status_of refusal ≢ 2) → (r ≡ Err why.Usage) ↔ IsNoCommand words
+generated_usage words n r count is kind =
+    (λ e. absurd ((subst (λ (q : Outcome). IfErr q (λ refusal. status_of refusal ≢ 2)) e kind) refl), λ none. absurd (none.1 n count is))
 
 pub names_weaker : (P Q : List ℕ → Type 0) → ((name : List ℕ) → P name → Q name) → (r : Outcome) → IfErr r (FaultNames P) → IfErr r (FaultNames Q)
-names_weaker P Q f (Ok text) h = tt
+names_weaker P Q f (Ok output) h = tt
 names_weaker P Q f (Err (why.ReadFault name)) h = f _ h
 names_weaker P Q f (Err why.Usage) h = tt
 names_weaker P Q f (Err (why.Missing name)) h = tt
@@ -61,7 +83,9 @@ names_weaker P Q f (Err (why.Entry name rule)) h = tt
 names_weaker P Q f (Err (why.Environment name rule)) h = tt
 names_weaker P Q f (Err (why.Test test call rule)) h = tt
 names_weaker P Q f (Err why.TooManyNodes) h = tt
-names_weaker P Q f (Err why.Internal) h = tt
+names_weaker P Q f (Err (why.NoSuchRow told index)) h = tt
+names_weaker P Q f (Err (why.Covered told index row test)) h = tt
+names_weaker P Q f (Err (why.Internal what)) h = tt
 names_weaker P Q f (Err why.Memory) h = tt
 
 -- a fault at a file of the project names one that is read for it

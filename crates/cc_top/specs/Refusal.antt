@@ -4,8 +4,6 @@ use Rattle.std.specs.FinMap.{get}
 use Rattle.std.specs.Fmt.{decimal}
 use Rattle.cc_front.specs.declared.fault.Fault.{Fault}
 use Rattle.cc_front.specs.declared.fault.Fault.TheVariants as fault
-use Rattle.cc_front.specs.declared.fault.FrontFault.{FrontFault}
-use Rattle.cc_front.specs.declared.fault.FrontFault.TheVariants as front
 use Rattle.cc_base.specs.declared.place.Spot.{Spot}
 use Rattle.cc_io.specs.Shelf.{Files}
 use Rattle.cc_prep.specs.declared.fault.PrepFault.{PrepFault}
@@ -15,12 +13,14 @@ use Rattle.cc_top.specs.Holds.{Holds}
 use Rattle.cc_project.specs.declared.fault.ProjectFault.{ProjectFault}
 use Rattle.cc_project.specs.declared.fault.ProjectFault.TheVariants as why
 use Rattle.cc_top.specs.declared.refusal.At.{At}
+use Rattle.cc_top.specs.declared.refusal.Internal.{Internal as Inner}
+use Rattle.cc_top.specs.declared.refusal.Internal.TheVariants as inner
 use Rattle.cc_top.specs.declared.refusal.Refusal.{Refusal}
-use Rattle.cc_top.specs.declared.refusal.Refusal.TheVariants.{Usage, ReadFault, Missing, TooLong, NotToml, Shape, Entry, Environment, Test, TooManyNodes, TooManyPoints, TooManyFacts, TooManyRows, Internal, Memory}
+use Rattle.cc_top.specs.declared.refusal.Refusal.TheVariants.{Usage, ReadFault, Missing, TooLong, NotToml, Shape, Entry, Environment, Test, TooManyNodes, TooManyPoints, TooManyFacts, TooManyRows, NoSuchRow, Covered, Internal, Memory}
 use Rattle.cc_top.specs.declared.refusal.Refusal.TheVariants as refusal
 
 abbrev pub usage_line : List ℕ
-usage_line = codes "usage: coupling check|list|score|tests|pairs P | gen N\n"
+usage_line = codes "usage: coupling check|list|score|tests|pairs P | gen N | reduce P | order P\n"
 
 abbrev pub missing_line : List ℕ → List ℕ
 missing_line name = name ++ codes ": missing\n"
@@ -65,6 +65,25 @@ environment_line name rule = codes "environment " ++ (name ++ (codes ": link K" 
 abbrev pub test_line : (test : List ℕ) (call rule : ℕ) → List ℕ
 test_line test call rule = codes "test " ++ (test ++ (codes " call " ++ (decimal (call + 1) ++ (codes ": B" ++ (decimal rule ++ codes "\n")))))
 
+-- a justification, by its number, whose line is that of no row
+abbrev pub no_row_line : (name : List ℕ) (index : ℕ) → List ℕ
+no_row_line name index = name ++ (codes ": Q1 justified[" ++ (decimal index ++ codes "]\n"))
+
+-- a justified row, which the line counts from 1, that a test exercises
+abbrev pub covered_line : (name : List ℕ) (index row : ℕ) (test : List ℕ) → List ℕ
+covered_line name index row test =
+    name ++ (codes ": Q2 justified[" ++ (decimal index ++ (codes "] row " ++ (decimal (row + 1) ++ (codes " " ++ (test ++ codes "\n"))))))
+
+-- what should not come
+abbrev pub internal_text : Inner → List ℕ
+internal_text inner.Number = codes "a number without a name"
+internal_text inner.Machine = codes "the machine is lost"
+internal_text inner.Watched = codes "runs can't be watched"
+internal_text inner.Generated = codes "a generated file can't be read"
+
+abbrev pub internal_line : Inner → List ℕ
+internal_line what = codes "internal: " ++ (internal_text what ++ codes "\n")
+
 -- the line that stands on err
 abbrev pub line_of : Refusal → List ℕ
 line_of Usage = usage_line
@@ -81,7 +100,9 @@ line_of TooManyNodes = codes "too many nodes\n"
 line_of (TooManyPoints count) = points_line count
 line_of TooManyFacts = codes "too many facts\n"
 line_of TooManyRows = codes "too many rows\n"
-line_of Internal = codes "internal: a number without a name\n"
+line_of (NoSuchRow name index) = no_row_line name index
+line_of (Covered name index row test) = covered_line name index row test
+line_of (Internal what) = internal_line what
 line_of Memory = memory_line
 
 abbrev pub status_of : Refusal → ℕ
@@ -124,6 +145,13 @@ IsOfInput (Missing name) = ⊥
 IsOfInput (TooLong name) = ⊥
 IsOfInput _ = Unit {0}
 
+-- what is a refusal over files that nobody handed over: where one can't be read, that should not come
+abbrev pub of_generated : Refusal → Refusal
+of_generated (ReadFault name) = Internal inner.Generated
+of_generated (Missing name) = Internal inner.Generated
+of_generated (TooLong name) = Internal inner.Generated
+of_generated refused = refused
+
 -- something is wrong at a place of a file
 abbrev pub refusal_at : List ℕ → Spot → Fault → Refusal
 refusal_at file spot what = refusal.At (record { file = file; spot = spot; fault = what })
@@ -136,11 +164,6 @@ refusal_of (prep.ReadFault file) = ReadFault file
 refusal_of (prep.Missing file) = Missing file
 refusal_of (prep.TooLong file) = TooLong file
 refusal_of prep.Memory = Memory
-
--- the refusal that a fault of the front end is
-abbrev pub IsOfFront : FrontFault → Refusal → Type 0
-IsOfFront (front.Expansion why) refused = (refused ≡ refusal_of why) ⊎ IsOfInput refused
-IsOfFront _ refused = IsOfInput refused
 
 -- the reading of these files in their order is refused so
 abbrev pub RefusesOne : Files → List (List ℕ) → Refusal → Type 0

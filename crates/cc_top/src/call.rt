@@ -1,5 +1,5 @@
 // The top call.
-ghost use Rattle.std.specs.Prelude.{◌≡◌, ◌⊎◌, ◌<◌, IfSome, map, string_bytes};
+ghost use Rattle.std.specs.Prelude.{◌≡◌, ◌⊎◌, ◌<◌, ℕ, IfSome, map, string_bytes};
 ghost use Rattle.cc_io.specs.Count.{Rose};
 ghost use Rattle.cc_io.specs.Sink.{GrowsByPrefix};
 ghost use Rattle.cc_top.specs.Counts.{counts_of};
@@ -7,7 +7,7 @@ ghost use Rattle.cc_top.specs.Ends.{held_of};
 ghost use Rattle.cc_top.specs.Refusal.{line_of, memory_line, status_of, usage_line};
 ghost use Rattle.cc_top.specs.Run.{Answers, Covers, RefusesReached, SomeEnd};
 ghost use Rattle.cc_top.specs.Told.{Reported, Told};
-ghost use Rattle.cc_top.specs.Words.{IsNoCommand};
+ghost use Rattle.cc_top.specs.Words.{IsNoCommand, gen_words};
 
 use crate::refusal::Refusal;
 use crate::steps::text_for;
@@ -53,10 +53,11 @@ fn report<E: Sink>(alloc: Global, err: &mut E, refusal: &Refusal) -> u8
 }
 
 /// Answers the words of a command line over the files of the shelf: the text goes to `out` in one put, or one line to
-/// `err` that says why there is none. The answer is the status: 0 done, 2 the words are no command, 3 the input is
-/// refused, 4 a fault of the shelf or of a sink, 5 want of memory.
+/// `err` that says why there is none. The answer is the status: 0 done, 1 done where a criterion that `score` or `gen`
+/// judges is not met, 2 the words are no command, 3 the input is refused, 4 a fault of the shelf or of a sink, 5 want of memory.
 ///
-/// Whatever is read is read from the shelf by the names that the words, the project file and `include` lines give.
+/// Whatever is read is read from the shelf by the names that the words, the project file and `include` lines give. `gen` reads
+/// nothing from it: it makes its files itself.
 pub fn run<S: Shelf, K: Sink, E: Sink>(
     alloc: Global,
     words: &[String],
@@ -103,15 +104,18 @@ pub fn run<S: Shelf, K: Sink, E: Sink>(
         × Reported usage_line 2 (E.held err.old) (E.held err.new)
         (E.faults err.old) (E.faults err.new) result }
     ensures not_usage { result ≡ 2 → IsNoCommand (map string_bytes words.now) }
+
+    // Words that ask for a generated project read nothing either.
+    ensures apart { (n : ℕ) → map string_bytes words.now ≡ gen_words n → shelf.new ≡ shelf.old }
 {
     // The law that `sound` rests on.
     listed_leaves_none_out();
-    let text = match text_for(alloc, words, shelf) {
-        Ok(text) => text,
+    let output = match text_for(alloc, words, shelf) {
+        Ok(output) => output,
         Err(refusal) => return report(alloc, err, &refusal),
     };
-    match out.put(&text) {
-        Ok(()) => 0,
+    match out.put(&output.text) {
+        Ok(()) => output.status(),
         Err(SinkFault::Failed) => {
             tell_last(err, b"write fault\n");
             4

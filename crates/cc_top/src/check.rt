@@ -11,6 +11,7 @@ ghost use Rattle.cc_top.specs.Refusal.{FaultNames, status_of};
 ghost use Rattle.cc_top.specs.Tells.{Tells};
 
 use crate::faults::of_front;
+use crate::output::Output;
 use crate::refusal::Refusal;
 use cc_base::List;
 use cc_front::{FrontFault, front};
@@ -63,7 +64,7 @@ pub fn files_checked<S: Shelf>(
     shelf: &mut S,
     project: &Project,
     files: &List<ByteList>,
-) -> Result<Vec<u8>, Refusal>
+) -> Result<Output, Refusal>
     requires few { length files.now ≤ 64 }
     requires short { All IsShort files.now }
     ensures keeps { S.files shelf.new ≡ S.files shelf.old }
@@ -77,7 +78,9 @@ pub fn files_checked<S: Shelf>(
         (FaultNames (IsIncludedIn held files.now))) }
 {
     match numbers(alloc, shelf, project, files) {
-        Ok((functions, objects)) => Ok(counts(alloc, project, functions, objects)?.into_bytes()),
+        Ok((functions, objects)) => Ok(Output::plain(counts(
+            alloc, project, functions, objects,
+        )?.into_bytes())),
         Err(fault) => Err(of_front(alloc, project, fault)),
     }
 }

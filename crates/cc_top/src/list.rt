@@ -12,6 +12,7 @@ ghost use Rattle.cc_top.specs.Tells.{Tells};
 ghost use Rattle.cc_top.specs.Tells as spec;
 
 use crate::faults::{of_front, of_listing};
+use crate::output::Output;
 use crate::refusal::Refusal;
 use cc_base::List;
 use cc_first_list::{Answer, first_answer};
@@ -36,7 +37,7 @@ fn table<S: Shelf>(
     ensures caused { IfErr result (IsCaused (counts_of (S.faults shelf.old) (S.misses shelf.old) (S.longs shelf.old))
         (counts_of (S.faults shelf.new) (S.misses shelf.new) (S.longs shelf.new))) }
     ensures told { IfSome (S.files shelf.old) (λ held. IfErr result (IsToldIn held files.now)) }
-    ensures table { IfOk result spec.IsMade }
+    ensures listed { IfOk result spec.IsListed }
 {
     match front(alloc, shelf, project, files) {
         Ok(built) => Ok(list_text(alloc, &built.program)),
@@ -50,13 +51,13 @@ fn whole_listed<S: Shelf>(
     shelf: &mut S,
     project: &Project,
     files: &List<ByteList>,
-) -> Result<Vec<u8>, Refusal>
+) -> Result<Output, Refusal>
     requires few { length files.now ≤ 64 }
     requires short { All IsShort files.now }
     ensures keeps { S.files shelf.new ≡ S.files shelf.old }
     ensures none_falls { NoneFalls (counts_of (S.faults shelf.old) (S.misses shelf.old) (S.longs shelf.old))
         (counts_of (S.faults shelf.new) (S.misses shelf.new) (S.longs shelf.new)) }
-    ensures told { Tells OfWhole result }
+    ensures told { Tells (OfWhole project.now) result }
     ensures caused { IfErr result (Caused (counts_of (S.faults shelf.old) (S.misses shelf.old) (S.longs shelf.old))
         (counts_of (S.faults shelf.new) (S.misses shelf.new) (S.longs shelf.new))) }
     ensures kind { IfErr result (λ refusal. status_of refusal ≢ 2) }
@@ -64,19 +65,19 @@ fn whole_listed<S: Shelf>(
         (FaultNames (IsIncludedIn held files.now))) }
 {
     match table(alloc, shelf, project, files) {
-        Ok(Ok(text)) => Ok(text),
+        Ok(Ok(text)) => Ok(Output::plain(text)),
         Ok(Err(fault)) => Err(of_listing(fault)),
         Err(fault) => Err(of_front(alloc, project, fault)),
     }
 }
 
 // What is answered for a project of the first form.
-fn answered(answer: Answer) -> Result<Vec<u8>, Refusal>
+fn answered(answer: Answer) -> Result<Output, Refusal>
     ensures is { result ≡ spec.answered answer }
     ensures input { IfErr result IsOfInput }
 {
     match answer {
-        Answer::Table(text) => Ok(text),
+        Answer::Table(text) => Ok(Output::plain(text)),
         Answer::TooManyPoints(count) => Err(Refusal::TooManyPoints(count)),
     }
 }
@@ -88,7 +89,7 @@ pub fn files_listed<S: Shelf>(
     bytes: &[u8],
     project: &Project,
     files: &List<ByteList>,
-) -> Result<Vec<u8>, Refusal>
+) -> Result<Output, Refusal>
     requires few { length files.now ≤ 64 }
     requires short { All IsShort files.now }
     ensures keeps { S.files shelf.new ≡ S.files shelf.old }

@@ -14,6 +14,19 @@ pub struct At {
     pub fault: Fault,
 }
 
+/// What should not come: that it can't is not proved.
+#[derive(Clone, Copy, Debug)]
+pub enum Internal {
+    /// A number that names nothing came back from a step.
+    Number,
+    /// The machine that runs the tests was lost.
+    Machine,
+    /// The runs of the tests can't be watched.
+    Watched,
+    /// A file of a generated project can't be read.
+    Generated,
+}
+
 #[derive(Debug, Drop)]
 pub enum Refusal {
     /// The words are no command.
@@ -27,15 +40,29 @@ pub enum Refusal {
     /// The project file is no TOML document.
     NotToml(Text),
     /// The project file breaks rule J`rule` at this key.
-    Shape { name: Text, key: Text, rule: u8 },
+    Shape {
+        name: Text,
+        key: Text,
+        rule: u8,
+    },
     /// A C file is refused at a place.
     At(At),
     /// The entry of this name breaks rule K`rule`.
-    Entry { name: Text, rule: u8 },
+    Entry {
+        name: Text,
+        rule: u8,
+    },
     /// The function of the environment of this name breaks rule K`rule`.
-    Environment { name: Text, rule: u8 },
+    Environment {
+        name: Text,
+        rule: u8,
+    },
     /// A call of this test, counted from 0, breaks rule B`rule`.
-    Test { test: Text, call: u32, rule: u8 },
+    Test {
+        test: Text,
+        call: u32,
+        rule: u8,
+    },
     /// The trees of the files have 2^30 nodes or more.
     TooManyNodes,
     /// The program has more control points than there may be: this many.
@@ -44,8 +71,20 @@ pub enum Refusal {
     TooManyFacts,
     /// The table would have more rows than there may be.
     TooManyRows,
-    /// A number that names nothing came back from a step: that it can't come isn't proved.
-    Internal,
+    /// The justification of this number, counted from 0, has the line of no row.
+    NoSuchRow {
+        name: Text,
+        index: u32,
+    },
+    /// A test of this name exercises the row of this number, counted from 0, that is justified.
+    Covered {
+        name: Text,
+        index: u32,
+        row: u32,
+        test: Text,
+    },
+    /// What should not come.
+    Internal(Internal),
     /// Memory was wanting.
     Memory,
 }
@@ -105,6 +144,49 @@ fn test_line(alloc: Global, test: &Text, call: u32, rule: u8) -> Result<String, 
     format!(in alloc; "test {test} call {call}: B{rule}\n")
 }
 
+// The line of a justification whose line is that of no row.
+fn no_row_line(alloc: Global, name: &Text, index: u32) -> Result<String, AllocError>
+    ensures { IfOk result (λ line. string_bytes line ≡ spec.no_row_line name.now index) }
+{
+    format!(in alloc; "{name}: Q1 justified[{index}]\n")
+}
+
+// The line of a justified row, which it counts from 1.
+fn covered_line(
+    alloc: Global,
+    name: &Text,
+    index: u32,
+    row: u32,
+    test: &Text,
+) -> Result<String, AllocError>
+    ensures { IfOk result (λ line. string_bytes line ≡ spec.covered_line name.now index row test.now) }
+{
+    let row = row as u64 + 1;
+    format!(in alloc; "{name}: Q2 justified[{index}] row {row} {test}\n")
+}
+
+impl Internal {
+    // What it is.
+    fn text(self) -> &'static str
+        ensures { result.now ≡ spec.internal_text self }
+    {
+        match self {
+            Internal::Number => "a number without a name",
+            Internal::Machine => "the machine is lost",
+            Internal::Watched => "runs can't be watched",
+            Internal::Generated => "a generated file can't be read",
+        }
+    }
+
+    // The line that says so.
+    fn line(self, alloc: Global) -> Result<String, AllocError>
+        ensures { IfOk result (λ line. string_bytes line ≡ spec.internal_line self) }
+    {
+        let text = self.text();
+        format!(in alloc; "internal: {text}\n")
+    }
+}
+
 impl Refusal {
     ghost use Rattle.cc_top.specs.Refusal.{line_of, status_of};
 
@@ -115,7 +197,7 @@ impl Refusal {
         match self {
             Refusal::Usage => String::from_str(
                 alloc,
-                "usage: coupling check|list|score|tests|pairs P | gen N\n",
+                "usage: coupling check|list|score|tests|pairs P | gen N | reduce P | order P\n",
             ),
             Refusal::ReadFault(name) => format!(in alloc; "{name}: read fault\n"),
             Refusal::Missing(name) => format!(in alloc; "{name}: missing\n"),
@@ -134,7 +216,14 @@ impl Refusal {
             ),
             Refusal::TooManyFacts => String::from_str(alloc, "too many facts\n"),
             Refusal::TooManyRows => String::from_str(alloc, "too many rows\n"),
-            Refusal::Internal => String::from_str(alloc, "internal: a number without a name\n"),
+            Refusal::NoSuchRow { name, index } => no_row_line(alloc, name, *index),
+            Refusal::Covered {
+                name,
+                index,
+                row,
+                test,
+            } => covered_line(alloc, name, *index, *row, test),
+            Refusal::Internal(what) => what.line(alloc),
             Refusal::Memory => String::from_str(alloc, "out of memory\n"),
         }
     }

@@ -19,9 +19,9 @@ use Rattle.cc_top.proofs.Reached.{asked, of_checked, past_files, past_read}
 use Rattle.cc_top.specs.Answer.{Reply, refused, done, OfBytes, OfFiles, OfFirst, OfListed, IsAnswer}
 use Rattle.cc_top.specs.Refusal.{points_line, usage_line}
 use Rattle.cc_top.specs.Sound.{IsOfFirstForm}
-use Rattle.cc_top.specs.Words.{IsNoCommand, list_words, words_of}
-use Rattle.cc_top.specs.declared.words.Task.{Task}
+use Rattle.cc_top.specs.Words.{IsNoCommand, list_words}
 use Rattle.cc_top.specs.declared.words.Task.TheVariants as task
+use Rattle.cc_top.specs.declared.work.Work.TheVariants as work
 use Rattle.cc_top_laws.specs.Laws.{IsFixed, OneAnswer}
 use Rattle.cc_top_laws.proofs.OneListing.{one_listing}
 
@@ -91,22 +91,19 @@ of_first files name first reply answer =
     let checked = first.1 in
     let contents = first.2 in
     let names = file_names_of checked.files in
-    let read = past_read files name bytes (OfBytes task.List files name) reply first.3 (asked (list_words name) files task.List name reply refl answer) in
-    let after = of_checked task.List files name bytes checked reply first.4 read in
-    let of : OfListed bytes checked contents reply = past_files files names contents (OfFiles task.List bytes checked) reply first.5 after in
+    let read = past_read files name bytes (OfBytes work.List files name) reply first.3 (asked (list_words name) files task.List name reply refl answer) in
+    let after = of_checked work.List files name bytes checked reply first.4 read in
+    let of : OfListed bytes checked contents reply = past_files files names contents (OfFiles work.List name bytes checked) reply first.5 after in
     ⊎_elim (λ p. moved bytes names contents p.0 first.6 reply p.1) (λ p. absurd (p.0 first.6)) of
 
 one_listed : (files : Files) (name : List ℕ) (a b : Reply) → IsOfFirstForm files name → IsAnswer (list_words name) files a → IsAnswer (list_words name) files b → a ≡ b
 one_listed files name a b first x y =
     one_of_units first.6.project first.6.parts first.6.others first.6.entry a b (of_first files name first a x) (of_first files name first b y)
 
-no_words : (words : List (List ℕ)) (t : Task) (name : List ℕ) → IsNoCommand words → words ≡ words_of t name → ⊥
-no_words words task.List name none is = (none name).0 is
-no_words words task.Check name none is = (none name).1 is
-
 usage : (words : List (List ℕ)) (files : Files) (a : Reply) → IsNoCommand words → IsAnswer words files a → a ≡ refused usage_line 2
 usage words files a none (inl p) = p.1
-usage words files a none (inr p) = absurd (no_words words p.0 p.1 none p.2)
+usage words files a none (inr (inl p)) = absurd (none.0 p.0 p.1 p.2)
+usage words files a none (inr (inr p)) = absurd (none.1 p.0 p.1 p.2)
 
 pub one_answer : OneAnswer
 one_answer words files a b (inl none) x y = usage words files a none x ∙ sym (usage words files b none y)

@@ -3,7 +3,7 @@ use Rattle.std.specs.Io.KnownBytes.{append_known}
 use Rattle.cc_io.specs.declared.sink.SinkFault.TheVariants.{Failed}
 use Rattle.cc_top.proofs.Sound.{sound_answer, sound_refusal}
 use Rattle.cc_top.proofs.Reached.{reached_answer, reached_fault}
-use Rattle.cc_top.proofs.EndFacts.{answered_report, answered_text, end_of_report, end_of_text, end_of_write_fault, fault_of_report, told_is_high, usage_of_report}
+use Rattle.cc_top.proofs.EndFacts.{answered_output, answered_report, end_of_output, end_of_report, end_of_write_fault, fault_of_report, status_is_low, told_is_high, usage_of_report}
 use Rattle.cc_top.specs.Words.{IsNoCommand}
 use Rattle.cc_top.proofs.call.run.Goals as goal
 
@@ -30,25 +30,34 @@ returns-in-Err-clause-fault g c =
 
 pub returns-in-Ok-put-clause-told : goal.returns-in-Ok-put-clause-told
 returns-in-Ok-put-clause-told g c =
-    answered_text (g.S.Shelf.files c.args.shelf.now) (map string_bytes c.args.words.now) c.in-Ok.text.items (g.K.Sink.held c.args.out.now) (g.K.Sink.held c.put.new.self) (g.E.Sink.held c.args.err.now)
-    c.in-Ok.ensures.told (c.in-Ok-put.ensures.ok ∙ ap (append_known (g.K.Sink.held c.args.out.now)) c.deref.ensures.value)
+    answered_output (g.S.Shelf.files c.args.shelf.now) (map string_bytes c.args.words.now) c.in-Ok.output (g.K.Sink.held c.args.out.now) (g.K.Sink.held c.put.new.self) (g.E.Sink.held c.args.err.now)
+    c.status.result c.status.ensures c.in-Ok.ensures.told (c.in-Ok-put.ensures.ok ∙ ap (append_known (g.K.Sink.held c.args.out.now)) c.deref.ensures.value)
 
 pub returns-in-Ok-put-clause-reached : goal.returns-in-Ok-put-clause-reached
 returns-in-Ok-put-clause-reached g c =
-    let answered = answered_text (g.S.Shelf.files c.args.shelf.now) (map string_bytes c.args.words.now) c.in-Ok.text.items (g.K.Sink.held c.args.out.now) (g.K.Sink.held c.put.new.self) (g.E.Sink.held c.args.err.now)
-    c.in-Ok.ensures.told (c.in-Ok-put.ensures.ok ∙ ap (append_known (g.K.Sink.held c.args.out.now)) c.deref.ensures.value) in
-    reached_answer (g.S.Shelf.files c.args.shelf.now) (map string_bytes c.args.words.now) _ _ _ _ 0 answered
+    let answered = answered_output (g.S.Shelf.files c.args.shelf.now) (map string_bytes c.args.words.now) c.in-Ok.output (g.K.Sink.held c.args.out.now) (g.K.Sink.held c.put.new.self) (g.E.Sink.held c.args.err.now)
+    c.status.result c.status.ensures c.in-Ok.ensures.told (c.in-Ok-put.ensures.ok ∙ ap (append_known (g.K.Sink.held c.args.out.now)) c.deref.ensures.value) in
+    reached_answer (g.S.Shelf.files c.args.shelf.now) (map string_bytes c.args.words.now) _ _ _ _ c.status.result answered
 
 pub returns-in-Ok-put-clause-ends : goal.returns-in-Ok-put-clause-ends
 returns-in-Ok-put-clause-ends g c =
-    end_of_text (g.S.Shelf.files c.args.shelf.now) (map string_bytes c.args.words.now) c.in-Ok.text.items _ _ _ _ _ _
-    c.in-Ok.ensures.told (c.in-Ok-put.ensures.ok ∙ ap (append_known (g.K.Sink.held c.args.out.now)) c.deref.ensures.value) refl
+    end_of_output (g.S.Shelf.files c.args.shelf.now) (map string_bytes c.args.words.now) c.in-Ok.output _ _ _ _ _ _
+    c.status.result c.status.ensures c.in-Ok.ensures.told (c.in-Ok-put.ensures.ok ∙ ap (append_known (g.K.Sink.held c.args.out.now)) c.deref.ensures.value) refl
+
+pub returns-in-Ok-put-clause-most : goal.returns-in-Ok-put-clause-most
+returns-in-Ok-put-clause-most g c = let low = status_is_low c.in-Ok.output.is_met in let is = c.status.ensures in omega (arith, low, is)
+
+pub returns-in-Ok-put-clause-fault : goal.returns-in-Ok-put-clause-fault
+returns-in-Ok-put-clause-fault g c = λ four. let low = status_is_low c.in-Ok.output.is_met in let is = c.status.ensures in absurd (omega (arith, low, is, four))
+
+pub returns-in-Ok-put-clause-not_usage : goal.returns-in-Ok-put-clause-not_usage
+returns-in-Ok-put-clause-not_usage g c = λ two. let low = status_is_low c.in-Ok.output.is_met in let is = c.status.ensures in absurd (omega (arith, low, is, two))
 
 pub returns-in-Err-Failed-clause-ends : goal.returns-in-Err-Failed-clause-ends
 returns-in-Err-Failed-clause-ends g c =
     let failed : c.put.result ≡ Err Failed = c.in-Err-Failed.is ∙ ap Err c.in-Err-Failed.field-0-is in
     let prefix = c.put.ensures.prefix failed in
-    end_of_write_fault (g.S.Shelf.files c.args.shelf.now) (map string_bytes c.args.words.now) c.in-Ok.text.items _ _ _ _ _ _
+    end_of_write_fault (g.S.Shelf.files c.args.shelf.now) (map string_bytes c.args.words.now) c.in-Ok.output.text.items c.in-Ok.output.is_met _ _ _ _ _ _
     c.in-Ok.ensures.told (c.put.ensures.failed failed) (rw c.deref.ensures.value at prefix) c.tell_last.ensures
 
 pub returns-in-Err-Failed-clause-reached : goal.returns-in-Err-Failed-clause-reached
@@ -62,9 +71,9 @@ returns-in-Err-clause-sound g c =
 
 pub returns-in-Ok-put-clause-sound : goal.returns-in-Ok-put-clause-sound
 returns-in-Ok-put-clause-sound g c =
-    let answered = answered_text (g.S.Shelf.files c.args.shelf.now) (map string_bytes c.args.words.now) c.in-Ok.text.items (g.K.Sink.held c.args.out.now) (g.K.Sink.held c.put.new.self) (g.E.Sink.held c.args.err.now)
-    c.in-Ok.ensures.told (c.in-Ok-put.ensures.ok ∙ ap (append_known (g.K.Sink.held c.args.out.now)) c.deref.ensures.value) in
-    sound_answer c.listed_leaves_none_out.ensures (g.S.Shelf.files c.args.shelf.now) (map string_bytes c.args.words.now) _ _ _ _ 0 answered
+    let answered = answered_output (g.S.Shelf.files c.args.shelf.now) (map string_bytes c.args.words.now) c.in-Ok.output (g.K.Sink.held c.args.out.now) (g.K.Sink.held c.put.new.self) (g.E.Sink.held c.args.err.now)
+    c.status.result c.status.ensures c.in-Ok.ensures.told (c.in-Ok-put.ensures.ok ∙ ap (append_known (g.K.Sink.held c.args.out.now)) c.deref.ensures.value) in
+    sound_answer c.listed_leaves_none_out.ensures (g.S.Shelf.files c.args.shelf.now) (map string_bytes c.args.words.now) _ _ _ _ c.status.result answered
 
 pub returns-in-Err-Failed-clause-sound : goal.returns-in-Err-Failed-clause-sound
 returns-in-Err-Failed-clause-sound g c = sound_refusal (g.S.Shelf.files c.args.shelf.now) (map string_bytes c.args.words.now) _ _ 4 (omega arith)

@@ -1,5 +1,5 @@
-use Rattle.cc_top.proofs.ListFacts.{made_of}
+use Rattle.cc_top.proofs.ListFacts.{listed_of}
 use Rattle.cc_top.proofs.list.table.Goals as goal
 
-pub returns-in-Ok-clause-table : goal.returns-in-Ok-clause-table
-returns-in-Ok-clause-table g c = made_of c.in-Ok.built.program c.list_text.result c.list_text.ensures.text
+pub returns-in-Ok-clause-listed : goal.returns-in-Ok-clause-listed
+returns-in-Ok-clause-listed g c = listed_of c.in-Ok.built.program c.list_text.result c.list_text.ensures.text c.list_text.ensures.fault

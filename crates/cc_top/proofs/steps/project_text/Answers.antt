@@ -8,12 +8,12 @@ use Rattle.cc_top.proofs.steps.project_text.Goals as goal
 pub returns-in-Ok-clause-told : goal.returns-in-Ok-clause-told
 returns-in-Ok-clause-told g c =
     let held = rw (c.new.ensures, c.as_slice.ensures, ap (λ (p : Project). p.files) c.project.view_is) at c.in-Ok.ensures.held in
-    files_led (g.S.Shelf.files c.args.shelf.now) (file_names_of c.args.project.now.files) c.in-Ok.files (OfFiles c.args.task c.args.bytes.now c.args.project.now) _ held c.files_text.ensures.told
+    files_led (g.S.Shelf.files c.args.shelf.now) (file_names_of c.args.project.now.files) c.in-Ok.files (OfFiles c.args.work c.args.name.now c.args.bytes.now c.args.project.now) _ held c.files_text.ensures.told
 
 pub returns-in-Err-clause-told : goal.returns-in-Err-clause-told
 returns-in-Err-clause-told g c =
     let refused = rw (c.as_slice.ensures, ap (λ (p : Project). p.files) c.project.view_is) at c.in-Err.ensures.refused in
-    files_refused (g.S.Shelf.files c.args.shelf.now) (file_names_of c.args.project.now.files) (OfFiles c.args.task c.args.bytes.now c.args.project.now) c.in-Err.refusal refused
+    files_refused (g.S.Shelf.files c.args.shelf.now) (file_names_of c.args.project.now.files) (OfFiles c.args.work c.args.name.now c.args.bytes.now c.args.project.now) c.in-Err.refusal refused
 
 pub returns-in-Err-clause-names : goal.returns-in-Err-clause-names
 returns-in-Err-clause-names g c =

@@ -5,7 +5,7 @@ use Rattle.cc_top.proofs.steps.task_text.Goals as goal
 pub returns-in-Ok-clause-told : goal.returns-in-Ok-clause-told
 returns-in-Ok-clause-told g c =
     let told = rw (c.read_file.ensures.keeps, c.bytes.ensures) at c.document_text.ensures.told in
-    read_told (g.S.Shelf.files c.args.shelf.now) c.args.name.now c.in-Ok.file (λ files. OfBytes c.args.task files c.args.name.now) c.document_text.result
+    read_told (g.S.Shelf.files c.args.shelf.now) c.args.name.now c.in-Ok.file (λ files. OfBytes c.args.work files c.args.name.now) c.document_text.result
     c.in-Ok.ensures.within c.in-Ok.ensures.held told
 
 pub returns-in-Ok-clause-names : goal.returns-in-Ok-clause-names

@@ -1,0 +1,5 @@
+pub mod Numbers
+pub mod Order
+pub mod Parts
+pub mod Steps
+pub mod Whole

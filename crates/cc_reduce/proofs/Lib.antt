@@ -1,0 +1,9 @@
+pub mod Best
+pub mod Counts
+pub mod Judged
+pub mod Looked
+pub mod Marked
+pub mod More
+pub mod Placed
+pub mod Places
+pub mod Tests

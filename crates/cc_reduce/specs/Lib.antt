@@ -1,0 +1,5 @@
+pub mod Laws
+pub mod Ordered
+pub mod Reduced
+pub mod Rows
+pub mod Texts

@@ -1,0 +1,5 @@
+pub mod Firsts
+pub mod Fit
+pub mod Runs
+pub mod Scored
+pub mod Watching
