@@ -25,7 +25,7 @@ use Rattle.cc_reports.specs.declared.kinds.Report.{Report}
 use Rattle.cc_reports.specs.declared.kinds.Report.TheVariants.{Score, Tests, Pairs, Summary, Reduce, Order}
 use Rattle.cc_tests.specs.Bound.{AreBound}
 use Rattle.cc_top.specs.Justified.{justifications}
-use Rattle.cc_top.specs.Words.{IsCount, IsNoCommand, gen_words, words_of}
+use Rattle.cc_top.specs.Words.{IsCount, IsNoCommand, devices_words, gen_words, words_of}
 use Rattle.cc_top.specs.declared.words.Task.{Task}
 use Rattle.cc_top.specs.declared.words.Task.TheVariants as task
 use Rattle.cc_top.specs.declared.work.Work.{Work}
@@ -135,17 +135,26 @@ OfReport what name project reply =
     ⊎ ((P : Program) × (tests : List Test) × AreBound P project.tests tests × OfProgram what name P tests (justifications project) reply)
 
 -- what is done over files that are read, where the project file has this name and these bytes
-abbrev pub OfFiles : Work → (name bytes : List ℕ) → Project → List (List ℕ) → Reply → Type 0
-OfFiles work.List name bytes project contents reply = OfListed bytes project contents reply
-OfFiles work.Check name bytes project contents reply = OfChecked project contents reply
-OfFiles (work.Report what) name bytes project contents reply = OfReport what name project reply
+abbrev pub OfFiles : Work → Files → (name bytes : List ℕ) → Project → List (List ℕ) → Reply → Type 0
+OfFiles work.List files name bytes project contents reply = OfListed bytes project contents reply
+OfFiles work.Check files name bytes project contents reply = OfChecked project contents reply
+OfFiles (work.Report what) files name bytes project contents reply = OfReport what name project reply
+OfFiles (work.Devices devices) files name bytes project contents reply = AfterRead files devices.now (OfDevices devices.now project) reply
 
--- the bytes are no document, or one that breaks a rule, or a project, whose files are read in their order
-abbrev pub OfBytes : Work → Files → List ℕ → List ℕ → Reply → Type 0
-OfBytes w files name bytes reply =
+-- the bytes are no document, or one that breaks a rule, or a project, whose files are read in their order and lead on
+abbrev pub OfProject : (Project → List (List ℕ) → Reply → Type 0) → Files → (name bytes : List ℕ) → Reply → Type 0
+OfProject next files name bytes reply =
     (IsFault bytes NotToml × (reply ≡ refused (not_toml_line name) 3))
     ⊎ ((key : List ℕ) × (rule : ℕ) × IsFault bytes (Shape key rule) × (reply ≡ refused (shape_line name key rule) 3))
-    ⊎ ((project : Project) × IsProject bytes project × AfterFiles files (file_names_of project.files) (OfFiles w name bytes project) reply)
+    ⊎ ((project : Project) × IsProject bytes project × AfterFiles files (file_names_of project.files) (next project) reply)
+
+-- what is done over the files of a project, where the project file has this name and these bytes
+abbrev pub OfBytes : Work → Files → (name bytes : List ℕ) → Reply → Type 0
+OfBytes w files name bytes reply = OfProject (OfFiles w files name bytes) files name bytes reply
+
+-- the same for the device couplings: the file of devices is read after those of the project
+abbrev pub OfDeviceBytes : (devices : List ℕ) → Files → (name bytes : List ℕ) → Reply → Type 0
+OfDeviceBytes devices files name bytes reply = OfProject (λ project contents. AfterRead files devices (OfDevices devices project)) files name bytes reply
 
 -- what is done for a task
 abbrev pub work_of : Task → Work
@@ -174,3 +183,4 @@ IsAnswer words files reply =
     (IsNoCommand words × (reply ≡ refused usage_line 2))
     ⊎ ((t : Task) × (name : List ℕ) × (words ≡ words_of t name) × AfterRead files name (OfBytes (work_of t) files name) reply)
     ⊎ ((n : ℕ) × IsCount n × (words ≡ gen_words n) × OfGenerated n reply)
+    ⊎ ((name devices : List ℕ) × (words ≡ devices_words name devices) × AfterRead files name (OfDeviceBytes devices files name) reply)
