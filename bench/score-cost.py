@@ -29,8 +29,10 @@ turns = 10000000
 calls = [["f"]]
 """
 
-# name, a.c, b.c, what C's `main` is to call
+# name, a.c, b.c; and the turns where they are others
 TEXTS = [
+    ("10,000 turns, 9,999 reads of one cell", "int v = 1;\nvoid f(void) { while (v) ; }\n", "", 10000),
+    ("10,000,000 turns, 9,999,999 reads of one cell", "int v = 1;\nvoid f(void) { while (v) ; }\n", ""),
     ("a loop of 9,999,998 turns, three assignments of one operator each",
      "int x;\nint y;\nint z;\nvoid f(void) { for (int i = 0; i < 9999997; i++) { x = i + 1; y = x ^ 5; z = y & 255; } }\n", ""),
     ("4,999,998 calls of a small function in a loop",
@@ -56,11 +58,12 @@ def measured(words, folder):
         best = seconds if best is None else min(best, seconds)
         most = max(most, int(pathlib.Path(f"{folder}/memory").read_text().split()[-1]))
         told = ran.stdout or ran.stderr
-    return best, most // 1024, told
+    return best, most / 1024, told
 
 
-def native(folder):
-    if shutil.which("gcc") is None:
+def native(folder, told):
+    """The seconds of gcc's program, where the run ends of itself."""
+    if shutil.which("gcc") is None or not told.endswith("done\n"):
         return "-"
     pathlib.Path(f"{folder}/main.c").write_text("void f(void);\nint main(void) { f(); return 0; }\n")
     subprocess.run(["gcc", "-O0", "-w", "-o", f"{folder}/main", "a.c", "b.c", "main.c"], cwd=folder, check=True)
@@ -79,15 +82,16 @@ def main():
     with tempfile.TemporaryDirectory() as folder:
         subprocess.run([sys.executable, f"{TOP}/bench/generated.py", "60", folder], check=True)
         seconds, memory, told = measured([program, "score", "p.toml"], folder)
-        print(f"| `score` on the generated project of 60 components | {seconds:.3f} | {memory} MB | `{told.splitlines()[-1]}` | |", flush=True)
+        print(f"| `score` on the generated project of 60 components | {seconds:.3f} | {memory:.1f} MB | `{told.splitlines()[-1]}` | |", flush=True)
         seconds, memory, told = measured([program, "gen", "60"], folder)
-        print(f"| `gen 60` | {seconds:.3f} | {memory} MB | `{told.splitlines()[0]}` | |", flush=True)
-    for name, a, b in TEXTS:
+        print(f"| `gen 60` | {seconds:.3f} | {memory:.1f} MB | `{told.splitlines()[0]}` | |", flush=True)
+    for name, a, b, *turns in TEXTS:
+        project = PROJECT.replace("10000000", str(turns[0])) if turns else PROJECT
         with tempfile.TemporaryDirectory() as folder:
-            for file, text in (("p.toml", PROJECT), ("a.c", a), ("b.c", b)):
+            for file, text in (("p.toml", project), ("a.c", a), ("b.c", b)):
                 pathlib.Path(f"{folder}/{file}").write_text(text)
             seconds, memory, told = measured([program, "tests", "p.toml"], folder)
-            print(f"| {name} | {seconds:.3f} | {memory} MB | `{told.splitlines()[-1]}` | {native(folder)} |", flush=True)
+            print(f"| {name} | {seconds:.3f} | {memory:.1f} MB | `{told.splitlines()[-1]}` | {native(folder, told)} |", flush=True)
 
 
 main()

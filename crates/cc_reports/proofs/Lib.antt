@@ -1,3 +1,4 @@
 pub mod Ascending
 pub mod Ordered
 pub mod Short
+pub mod Stopped

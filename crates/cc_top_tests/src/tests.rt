@@ -326,7 +326,7 @@ fn scores(rt: HostRuntime) -> Result<(), Fail> {
     Ok(())
 }
 
-// What a shelf with the sensor and its owner says, of which these reads fail.
+// A shelf with the sensor and its owner, of which these reads fail.
 fn sensor(alloc: Global, fails: &[u64]) -> Result<MemoryShelf, Fail> {
     let mut shelf = MemoryShelf::new(alloc, fails)?;
     shelf.add("p.toml", SENSOR_PROJECT.as_bytes())?;
@@ -351,9 +351,6 @@ fn reports(rt: HostRuntime) -> Result<(), Fail> {
             "{word}"
         );
     }
-    let mut failing = sensor(rt.alloc(), &[3])?;
-    let fault = "control.c: read fault\n";
-    assert!(rt; answers(rt.alloc(), &["score", "p.toml"], &mut failing, "", fault, 4)?);
     Ok(())
 }
 
@@ -377,6 +374,87 @@ fn generated(rt: HostRuntime) -> Result<(), Fail> {
         assert!(rt;
             answers(rt.alloc(), &["gen", count], &mut shelf, out, "", status)?,
             "{count}"
+        );
+    }
+    Ok(())
+}
+
+// A shelf with a project of these two files and one test, of which these reads fail.
+fn two_files(alloc: Global, a: &str, b: &str, fails: &[u64]) -> Result<MemoryShelf, Fail> {
+    let mut shelf = MemoryShelf::new(alloc, fails)?;
+    let project = format!(in alloc; "{PROJECT}{TEST}")?;
+    shelf.add("p.toml", project.as_bytes())?;
+    shelf.add("a.c", a.as_bytes())?;
+    shelf.add("b.c", b.as_bytes())?;
+    Ok(shelf)
+}
+
+// Whether this command of the project leaves these texts on out and err, and this status, where out has so much room
+// and where the puts of the two lists fail, those of out first.
+fn leaves(
+    alloc: Global,
+    command: &str,
+    shelf: &mut MemoryShelf,
+    room: u64,
+    fails: [&[u64]; 2],
+    texts: [&str; 2],
+    status: u8,
+) -> Result<bool, Fail> {
+    let mut words = Vec::new(alloc);
+    words.push(String::from_str(alloc, command)?)?;
+    words.push(String::from_str(alloc, "p.toml")?)?;
+    let mut out = MemorySink::new(alloc, room, fails[0])?;
+    let mut err = MemorySink::new(alloc, 99, fails[1])?;
+    let ended = run(alloc, &words, shelf, &mut out, &mut err);
+    Ok(ended == status && out.held() == texts[0].as_bytes() && err.held() == texts[1].as_bytes())
+}
+
+// A table that is longer than out's room, a refusal whose line isn't taken, and a project file that can't be read.
+#[test]
+fn faults_of_list(rt: HostRuntime) -> Result<(), Fail> {
+    let banned = "int a;\nfloat b;\nunion u { int i; };\n";
+    let texts = ["row,kind,f", "write fault\n"];
+    let mut shelf = two_files(rt.alloc(), A, B, &[])?;
+    assert!(rt; leaves(rt.alloc(), "list", &mut shelf, 10, [&[], &[]], texts, 4)?);
+    let mut shelf = two_files(rt.alloc(), banned, "", &[])?;
+    assert!(rt; leaves(rt.alloc(), "list", &mut shelf, 99, [&[], &[1]], ["", ""], 4)?);
+    let texts = ["", "p.toml: read fault\n"];
+    let mut shelf = two_files(rt.alloc(), A, B, &[1])?;
+    assert!(rt; leaves(rt.alloc(), "list", &mut shelf, 99, [&[], &[]], texts, 4)?);
+    Ok(())
+}
+
+// Each read and each put of `score` fails in turn, a put on err with and without the fault that it is to tell. There
+// is no fourth read and no second put, so nothing comes of those.
+#[test]
+fn faults_of_score(rt: HostRuntime) -> Result<(), Fail> {
+    let cases: [([&[u64]; 3], [&str; 2], u8); 12] = [
+        ([&[1], &[], &[]], ["", "p.toml: read fault\n"], 4),
+        ([&[2], &[], &[]], ["", "sensor.c: read fault\n"], 4),
+        ([&[3], &[], &[]], ["", "control.c: read fault\n"], 4),
+        ([&[4], &[], &[]], [SENSOR_SCORE, ""], 1),
+        ([&[], &[1], &[]], ["", "write fault\n"], 4),
+        ([&[], &[2], &[]], [SENSOR_SCORE, ""], 1),
+        ([&[1], &[], &[1]], ["", ""], 4),
+        ([&[2], &[], &[1]], ["", ""], 4),
+        ([&[3], &[], &[1]], ["", ""], 4),
+        ([&[], &[1], &[1]], ["", ""], 4),
+        ([&[], &[1], &[2]], ["", "write fault\n"], 4),
+        ([&[], &[], &[1]], [SENSOR_SCORE, ""], 1),
+    ];
+    for ([reads, out, err], texts, status) in cases {
+        let mut shelf = sensor(rt.alloc(), reads)?;
+        assert!(rt;
+            leaves(
+                rt.alloc(),
+                "score",
+                &mut shelf,
+                4096,
+                [out, err],
+                texts,
+                status
+            )?,
+            "{reads:?} {out:?} {err:?}"
         );
     }
     Ok(())

@@ -1,5 +1,5 @@
 use Rattle.cc_top.proofs.FrontFacts.{front_caused, front_kind, front_named}
-use Rattle.cc_top.proofs.ReportFacts.{files_refused}
+use Rattle.cc_top.proofs.ReportFacts.{files_refused, outcome_caused, outcome_kind, outcome_named}
 use Rattle.cc_top.proofs.reports.files_reported.Goals as goal
 
 pub returns-in-Err-clause-told : goal.returns-in-Err-clause-told
@@ -13,3 +13,12 @@ returns-in-Err-clause-kind g c = front_kind c.args.project.now c.in-Err.fault c.
 
 pub returns-in-Err-clause-names : goal.returns-in-Err-clause-names
 returns-in-Err-clause-names g c = front_named (g.S.Shelf.files c.args.shelf.now) c.args.files.now c.args.project.now c.in-Err.fault c.of_front.result c.in-Err.ensures.told c.of_front.ensures
+
+pub returns-in-Ok-clause-caused : goal.returns-in-Ok-clause-caused
+returns-in-Ok-clause-caused g c = outcome_caused _ _ c.built_reported.result c.built_reported.ensures.input
+
+pub returns-in-Ok-clause-kind : goal.returns-in-Ok-clause-kind
+returns-in-Ok-clause-kind g c = outcome_kind c.built_reported.result c.built_reported.ensures.input
+
+pub returns-in-Ok-clause-names : goal.returns-in-Ok-clause-names
+returns-in-Ok-clause-names g c = outcome_named (g.S.Shelf.files c.args.shelf.now) c.args.files.now c.built_reported.result c.built_reported.ensures.input
