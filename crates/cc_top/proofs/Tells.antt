@@ -81,6 +81,7 @@ names_weaker P Q f (Err why.TooManyFacts) h = tt
 names_weaker P Q f (Err why.TooManyRows) h = tt
 names_weaker P Q f (Err (why.NotToml name)) h = tt
 names_weaker P Q f (Err (why.Shape name key rule)) h = tt
+names_weaker P Q f (Err (why.DeviceShape name key rule)) h = tt
 names_weaker P Q f (Err (why.At at)) h = tt
 names_weaker P Q f (Err (why.Entry name rule)) h = tt
 names_weaker P Q f (Err (why.Environment name rule)) h = tt

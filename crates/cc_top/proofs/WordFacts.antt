@@ -23,24 +23,22 @@ command_told word argument (command.Devices name devices) h = absurd h
 
 -- two words that are no command
 pub no_command_told : (word argument : List ℕ) → IsNoCommandOf word argument → IsNoCommand (two_words word argument)
-no_command_told word argument none =
-    (
-      λ t project e. none.0 t (let f = e in cc),
-      λ n count e. none.1 (let f = e in cc) n count (let f = e in cc),
-      λ project devices e. two_are_not_three word argument devices_word project devices e,
-    )
+no_command_told word argument none = (
+  λ t project e. none.0 t (let f = e in cc),
+  λ n count e. none.1 (let f = e in cc) n count (let f = e in cc),
+  λ project devices e. two_are_not_three word argument devices_word project devices e,
+)
 
 -- and three
 pub devices_told : (word name devices : List ℕ) → word ≡ devices_word → three_words word name devices ≡ devices_words name devices
 devices_told word name devices is = ap (λ w. three_words w name devices) is
 
 pub no_devices_told : (word name devices : List ℕ) → word ≢ devices_word → IsNoCommand (three_words word name devices)
-no_devices_told word name devices none =
-    (
-      λ t project e. two_are_not_three (word_of t) project word name devices (sym e),
-      λ n count e. two_are_not_three gen_word (decimal n) word name devices (sym e),
-      λ project others e. none (let f = e in cc),
-    )
+no_devices_told word name devices none = (
+  λ t project e. two_are_not_three (word_of t) project word name devices (sym e),
+  λ n count e. two_are_not_three gen_word (decimal n) word name devices (sym e),
+  λ project others e. none (let f = e in cc),
+)
 
 -- the text of a number of two digits
 two_digits : (n : ℕ) → 10 ≤ n → n ≤ 60 → decimal n ≡ (48 + n / 10) ∷ (48 + n % 10) ∷ []

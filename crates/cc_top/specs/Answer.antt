@@ -9,6 +9,11 @@ use Rattle.cc_first.specs.Unit.{program_of}
 use Rattle.cc_first_list.specs.First.{IsFirst}
 use Rattle.cc_first_list.specs.Points.{points, most_points}
 use Rattle.cc_gen.specs.Generated.{generated}
+use Rattle.cc_device.specs.Outcome.{IsDevices, IsFault as IsDeviceFault}
+use Rattle.cc_device.specs.declared.device.Device.{Device}
+use Rattle.cc_device.specs.declared.fault.DeviceFault.{DeviceFault}
+use Rattle.cc_device_runs.specs.Reports.{IsReport as IsDeviceReport}
+use Rattle.cc_device_runs.specs.declared.fault.DeviceReportFault.{DeviceReportFault}
 use Rattle.cc_front.specs.declared.fault.FrontFault.{FrontFault}
 use Rattle.cc_listing.specs.Answers.{IsTable, RefusedWhole}
 use Rattle.cc_listing.specs.declared.fault.ListFault.{ListFault}
@@ -33,7 +38,7 @@ use Rattle.cc_top.specs.declared.work.Work.TheVariants as work
 use Rattle.cc_top.specs.declared.refusal.Internal.TheVariants.{Generated}
 use Rattle.cc_top.specs.declared.refusal.Refusal.{Refusal}
 use Rattle.cc_top.specs.Refusal.{usage_line, missing_line, long_line, points_line, not_toml_line, shape_line, internal_line, line_of, status_of}
-use Rattle.cc_top.specs.Refused.{of_front, of_listing, of_report}
+use Rattle.cc_top.specs.Refused.{of_device_report, of_devices, of_front, of_listing, of_report}
 
 -- what is added to out and to err, and the status
 pub record Reply : Type 0 where
@@ -133,6 +138,22 @@ abbrev pub OfReport : Report → (name : List ℕ) → Project → Reply → Typ
 OfReport what name project reply =
     RefusesFiles project reply
     ⊎ ((P : Program) × (tests : List Test) × AreBound P project.tests tests × OfProgram what name P tests (justifications project) reply)
+
+-- it is the report on the devices of a program with these tests, or there is none for a fault: when that comes no definition
+-- says yet
+abbrev pub OfDeviceProgram : Program → List Test → List Device → Reply → Type 0
+OfDeviceProgram P tests devices reply =
+    ((text : List ℕ) × (is_met : Bool) × IsDeviceReport P tests devices text is_met × (reply ≡ made text is_met))
+    ⊎ ((fault : DeviceReportFault) × Refuses (of_device_report fault) reply)
+
+-- The files are refused by the front end; or the file of devices of this name with these bytes is; or there is a program, and it
+-- is the report on its devices with the tests of the project. That the program is that of the files no definition says yet.
+abbrev pub OfDevices : (name : List ℕ) → Project → (bytes : List ℕ) → Reply → Type 0
+OfDevices name project bytes reply =
+    RefusesFiles project reply
+    ⊎ ((fault : DeviceFault) × IsDeviceFault project.environment bytes fault × Refuses (of_devices name fault) reply)
+    ⊎ ((P : Program) × (tests : List Test) × AreBound P project.tests tests
+    × ((all : List Device) × IsDevices project.environment bytes all × OfDeviceProgram P tests all reply))
 
 -- what is done over files that are read, where the project file has this name and these bytes
 abbrev pub OfFiles : Work → Files → (name bytes : List ℕ) → Project → List (List ℕ) → Reply → Type 0
