@@ -34,7 +34,7 @@ fault_told P tests all fault r is input below = inr (fault, refuses (of_device_r
 pub program_told : (name : List ℕ) (project : Project) (bytes : List ℕ) (P : Program) (tests : List Test) (all : List Device) (r : Outcome) → AreBound P project.tests tests
     → IsDevices project.environment bytes all → Tells (OfDeviceProgram P tests all) r → Tells (OfDevices name project bytes) r
 program_told name project bytes P tests all r bound is h =
-    tells_weaker (OfDeviceProgram P tests all) (OfDevices name project bytes) (λ reply of. inr (inr (P, tests, bound, all, is, of))) r h
+    tells_weaker (OfDeviceProgram P tests all) (OfDevices name project bytes) (λ reply of. inr (inr (P, tests, bound, (all, is, of)))) r h
 
 pub shape_told : (name : List ℕ) (project : Project) (bytes : List ℕ) (fault : DeviceFault) (r : Refusal) → IsFault project.environment bytes fault → IsOfInput r → IsRefusal (of_devices name fault) r
     → status_of r < 4 → OfDevices name project bytes (reply_of r)

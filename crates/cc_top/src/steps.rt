@@ -44,12 +44,12 @@ fn files_text<S: Shelf>(
     ensures keeps { S.files shelf.new ≡ S.files shelf.old }
     ensures none_falls { NoneFalls (counts_of (S.faults shelf.old) (S.misses shelf.old) (S.longs shelf.old))
         (counts_of (S.faults shelf.new) (S.misses shelf.new) (S.longs shelf.new)) }
-    ensures told { IfSome (S.files shelf.old) (λ held. Tells (OfFiles work held name.now bytes.now project.now files.now) result) }
+    ensures told { IfSome (S.files shelf.old) (λ held. Tells (OfFiles work.entry held name.now bytes.now project.now files.now) result) }
     ensures caused { IfErr result (Caused (counts_of (S.faults shelf.old) (S.misses shelf.old) (S.longs shelf.old))
         (counts_of (S.faults shelf.new) (S.misses shelf.new) (S.longs shelf.new))) }
     ensures kind { IfErr result (λ refusal. status_of refusal ≢ 2) }
     ensures names { IfSome (S.files shelf.old) (λ held. IfErr result
-        (FaultNames (Beside work (IsIncludedIn held files.now)))) }
+        (FaultNames (Beside work.entry (IsIncludedIn held files.now)))) }
 {
     match work {
         Work::List => files_listed(alloc, shelf, bytes, project, files),
@@ -72,12 +72,12 @@ fn project_text<S: Shelf>(
     ensures none_falls { NoneFalls (counts_of (S.faults shelf.old) (S.misses shelf.old) (S.longs shelf.old))
         (counts_of (S.faults shelf.new) (S.misses shelf.new) (S.longs shelf.new)) }
     ensures told { IfSome (S.files shelf.old) (λ files.
-        Tells (AfterFiles files (file_names_of project.now.files) (OfFiles work files name.now bytes.now project.now)) result) }
+        Tells (AfterFiles files (file_names_of project.now.files) (OfFiles work.entry files name.now bytes.now project.now)) result) }
     ensures caused { IfErr result (Caused (counts_of (S.faults shelf.old) (S.misses shelf.old) (S.longs shelf.old))
         (counts_of (S.faults shelf.new) (S.misses shelf.new) (S.longs shelf.new))) }
     ensures kind { IfErr result (λ refusal. status_of refusal ≢ 2) }
     ensures names { IfSome (S.files shelf.old) (λ files. IfErr result
-        (FaultNames (Beside work (MayBeReached files (file_names_of project.now.files))))) }
+        (FaultNames (Beside work.entry (MayBeReached files (file_names_of project.now.files))))) }
 {
     match read_files(alloc, shelf, project.files.as_slice(), List::new(alloc)) {
         Ok(files) => files_text(alloc, shelf, work, name, bytes, project, &files),
@@ -96,11 +96,11 @@ fn document_text<S: Shelf>(
     ensures keeps { S.files shelf.new ≡ S.files shelf.old }
     ensures none_falls { NoneFalls (counts_of (S.faults shelf.old) (S.misses shelf.old) (S.longs shelf.old))
         (counts_of (S.faults shelf.new) (S.misses shelf.new) (S.longs shelf.new)) }
-    ensures told { IfSome (S.files shelf.old) (λ files. Tells (OfBytes work files name.now bytes.now) result) }
+    ensures told { IfSome (S.files shelf.old) (λ files. Tells (OfBytes work.entry files name.now bytes.now) result) }
     ensures caused { IfErr result (Caused (counts_of (S.faults shelf.old) (S.misses shelf.old) (S.longs shelf.old))
         (counts_of (S.faults shelf.new) (S.misses shelf.new) (S.longs shelf.new))) }
     ensures kind { IfErr result (λ refusal. status_of refusal ≢ 2) }
-    ensures names { IfSome (S.files shelf.old) (λ files. IfErr result (FaultNames (Beside work (IsNamed files bytes.now)))) }
+    ensures names { IfSome (S.files shelf.old) (λ files. IfErr result (FaultNames (Beside work.entry (IsNamed files bytes.now)))) }
 {
     match read_project(alloc, bytes) {
         Ok(project) => project_text(alloc, shelf, work, name, bytes, &project),
@@ -118,11 +118,11 @@ pub fn task_text<S: Shelf>(
     ensures keeps { S.files shelf.new ≡ S.files shelf.old }
     ensures none_falls { NoneFalls (counts_of (S.faults shelf.old) (S.misses shelf.old) (S.longs shelf.old))
         (counts_of (S.faults shelf.new) (S.misses shelf.new) (S.longs shelf.new)) }
-    ensures told { IfSome (S.files shelf.old) (λ files. Tells (AfterRead files name.now (OfBytes work files name.now)) result) }
+    ensures told { IfSome (S.files shelf.old) (λ files. Tells (AfterRead files name.now (OfBytes work.entry files name.now)) result) }
     ensures caused { IfErr result (Caused (counts_of (S.faults shelf.old) (S.misses shelf.old) (S.longs shelf.old))
         (counts_of (S.faults shelf.new) (S.misses shelf.new) (S.longs shelf.new))) }
     ensures kind { IfErr result (λ refusal. status_of refusal ≢ 2) }
-    ensures names { IfSome (S.files shelf.old) (λ files. IfErr result (FaultNames (Beside work (MayBeReadFor files name.now)))) }
+    ensures names { IfSome (S.files shelf.old) (λ files. IfErr result (FaultNames (Beside work.entry (MayBeReadFor files name.now)))) }
 {
     match read_file(alloc, shelf, name) {
         Ok(file) => document_text(alloc, shelf, work, name, file.bytes()),
