@@ -1,6 +1,6 @@
 -- The parts of a step take no turn.
 use Rattle.std.proofs.Common.{ℕ, zero, suc, ◌+◌, ◌≤◌, ℤ, pos, List, [], ◌∷◌, length, Option, Some, None, Result, Ok, Err, Bool, true, false}
-use Rattle.std.specs.Prelude.{slice_get, ◌==◌, ◌&&◌, is_some, nat_lt}
+use Rattle.std.specs.Prelude.{slice_get, ◌&&◌, nat_lt}
 use Rattle.cc_arith.specs.declared.kind.IntKind.{IntKind}
 use Rattle.cc_arith.specs.declared.kind.IntKind.TheVariants.{Long}
 use Rattle.cc_arith.specs.declared.binary_operator.IntOp.{IntOp}
@@ -8,12 +8,11 @@ use Rattle.cc_arith.specs.declared.unary_operator.IntUnary.{IntUnary}
 use Rattle.cc_arith.specs.Conversions.{is_zero}
 use Rattle.cc_program.specs.declared.function.FuncId.{FuncId}
 use Rattle.cc_meaning.specs.declared.end.Undef.{Undef}
-use Rattle.cc_meaning.specs.declared.event.Event.{Event}
 use Rattle.cc_store.specs.declared.value.Pointer.{Pointer}
 use Rattle.cc_store.specs.declared.value.Value.{Value}
 use Rattle.cc_store.specs.declared.value.Value.TheVariants.{Unwritten, Int, Null, Function, Points}
-use Rattle.cc_store.specs.Objects.{Object, object_of, read_in, read_cell, write_cell, refused, missing, made, next_pointer, last_object}
-use Rattle.cc_store.specs.Stacks.{if_so, first}
+use Rattle.cc_store.specs.Objects.{read_cell, refused, missing, last_object}
+use Rattle.cc_store.specs.Stacks.{first}
 use Rattle.cc_acts.specs.declared.acts.Filler.{Filler}
 use Rattle.cc_acts.specs.declared.acts.Filler.TheVariants.{Cells as SameCells, Operand}
 use Rattle.cc_acts.specs.declared.frame.Entry.{Entry}

@@ -2,7 +2,6 @@
 use Rattle.std.proofs.Common.{◌≡◌, ℕ, ◌+◌, ◌*◌, ◌<◌, ◌≤◌, List, [], ◌∷◌, Option, Some, None, Bool, true, false, refl, ap, ◌∙◌, arith}
 use Rattle.std.specs.Prelude.{slice_get, take, drop}
 use Rattle.std.proofs.Math.Nat.{mul-le-mul_left}
-use Rattle.cc_meaning.specs.declared.test.Test.{Test}
 use Rattle.cc_meaning.specs.declared.test.TestCall.{TestCall}
 use Rattle.cc_store.specs.declared.value.Value.TheVariants.{Function}
 use Rattle.cc_acts.specs.declared.acts.Acts.{Acts}
@@ -12,9 +11,8 @@ use Rattle.cc_acts.specs.Runs.{go_on, ◌>>◌}
 use Rattle.cc_acts.specs.Parts.{has_room, with}
 use Rattle.cc_acts.specs.Steps.{Config, At}
 use Rattle.cc_interp.specs.Tests.{fresh, make_one_if, make_one, make_lasting, lasting_at, fill_one, fill_lasting, idle, pushed, entry_config, begin, drive_from, run_calls, run}
-use Rattle.cc_ends_laws.specs.Ends.{Ends}
 use Rattle.cc_ends_laws.specs.Laws.{RunsEnd}
-use Rattle.cc_ends_laws.specs.Ranks.{rank, AreRanked, HaveRanks}
+use Rattle.cc_ends_laws.specs.Ranks.{rank, AreRanked}
 use Rattle.cc_ends_laws.proofs.Holding.{Holds, holds_on, same_on, Told, told}
 use Rattle.cc_ends_laws.proofs.Parts.{Still, still_both, still_fill_all}
 use Rattle.cc_ends_laws.proofs.Steps.{driven, driven_same}

@@ -12,11 +12,7 @@ pub enum Ways {
     One(u32),
     Two(u32, u32),
     /// Those of `count` labels of switches from number `from`, or the other one.
-    Cases {
-        from: u32,
-        count: u32,
-        other: u32,
-    },
+    Cases { from: u32, count: u32, other: u32 },
 }
 
 /// Where the act leads.
@@ -28,7 +24,10 @@ pub fn ways_of(act: Act) -> Ways
         Act::Branch { yes, no } => Ways::Two(yes, no),
         Act::Shortcut { right, next, .. } => Ways::Two(right, next),
         Act::Select {
-            from, count, other, ..
+            from,
+            count,
+            other,
+            ..
         } => Ways::Cases { from, count, other },
         Act::Skip { next }
         | Act::Constant { next, .. }
