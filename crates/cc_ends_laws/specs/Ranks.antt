@@ -78,6 +78,6 @@ pub record AreRanked (G : Acts) (steps : ℕ) (ranks : List ℕ) : Type 0 where
   pub entries : (f e : ℕ) → slice_get G.entries f ≡ Some (Some e) → rank ranks e ≡ 0
   pub points : (p : ℕ) (n : Node) → slice_get G.nodes p ≡ Some n → rank ranks p < steps → LeadsDown ranks G.cases (limit n.takes_turn steps (rank ranks p)) n.act
 
--- The points of the acts have such ranks, by which a turn has at most so many steps.
+-- The points of the acts have such ranks: a run takes at most so many steps for each of its turns, and one more.
 abbrev pub HaveRanks : Acts → ℕ → Type 0
 HaveRanks G steps = (ranks : List ℕ) × AreRanked G steps ranks

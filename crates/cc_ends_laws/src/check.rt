@@ -114,7 +114,7 @@ fn entries_are_lowest(acts: &Acts, ranks: &[u32]) -> bool
     true
 }
 
-/// Whether the acts have these ranks, by which a turn has at most so many steps.
+/// Whether the acts have these ranks, by which a run takes at most so many steps for each turn.
 pub(crate) fn are_ranked(acts: &Acts, ranks: &[u32], steps: u32) -> bool
     ensures { result ≡ true → AreRanked acts.now steps ranks.now }
 {

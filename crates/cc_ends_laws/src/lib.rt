@@ -25,7 +25,7 @@ pub fn runs_end()
     ensures { RunsEnd }
 {}
 
-/// How many steps a turn has at most, where the points of the acts have ranks: each run over them ends. Where a run could go in
+/// How many steps a run takes at most for each turn, where the points of the acts have ranks: it ends. Where a run could go in
 /// a circle without taking a turn, they have none.
 pub fn steps_per_turn(alloc: Global, acts: &Acts) -> Result<Option<u32>, Memory>
     ensures { IfOk result (λ found. IfSome found (λ steps. HaveRanks acts.now steps)) }
