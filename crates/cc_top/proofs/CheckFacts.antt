@@ -7,11 +7,11 @@ use Rattle.cc_first.specs.Limit.{limit}
 use Rattle.cc_project.specs.Project.{Project}
 use Rattle.cc_project.specs.Outcome.{IsProject}
 use Rattle.cc_project.specs.WellMade.{file_names_of}
-use Rattle.cc_top.proofs.Tells.{Outcome, after_read, names_weaker, tells_weaker}
+use Rattle.cc_top.proofs.Tells.{Outcome, after_read, beside_weaker, names_weaker, tells_weaker}
 use Rattle.cc_top.specs.Answer.{Reply, AfterRead, AfterFiles, OfBytes, OfFiles, Refuses, refused, reply_of}
 use Rattle.cc_top.specs.Refused.{IsRefusal}
 use Rattle.cc_top.specs.Holds.{AllHold, AddsHeld}
-use Rattle.cc_top.specs.Reads.{IsIncludedIn, IsReached, MayBeReached}
+use Rattle.cc_top.specs.Reads.{Beside, IsIncludedIn, IsReached, MayBeReached}
 use Rattle.cc_top.specs.Refusal.{FaultNames, IsOfInput, RefusesOne, RefusesRead, line_of, status_of, missing_line, long_line}
 use Rattle.cc_top.specs.Tells.{Tells, IsNamed}
 use Rattle.cc_top.specs.declared.work.Work.{Work}
@@ -53,12 +53,12 @@ leads_on files (name ∷ names) (bytes ∷ contents) next reply held h =
     after_read files name bytes (λ it. AfterFiles files names (λ rest. next (it ∷ rest))) reply held.0.0 held.0.1 (leads_on files names contents (λ rest. next (bytes ∷ rest)) reply held.1 h)
 
 -- what is told of the files' bytes is told of their reading
-pub files_led : (o : Option Files) (names contents : List (List ℕ)) (next : List (List ℕ) → Reply → Type 0) (r : Outcome)
-    → IfSome o (λ files. AddsHeld files names [] contents) → Tells (next contents) r → IfSome o (λ files. Tells (AfterFiles files names next) r)
+pub files_led : (o : Option Files) (names contents : List (List ℕ)) (next : Files → List (List ℕ) → Reply → Type 0) (r : Outcome)
+    → IfSome o (λ files. AddsHeld files names [] contents) → IfSome o (λ files. Tells (next files contents) r) → IfSome o (λ files. Tells (AfterFiles files names (next files)) r)
 files_led None names contents next r adds h = tt
 files_led (Some files) names contents next r adds h =
     let held : AllHold files names contents = subst (AllHold files names) (sym adds.1) adds.2 in
-    tells_weaker (next contents) (AfterFiles files names next) (λ reply of. leads_on files names contents next reply held of) r h
+    tells_weaker (next files contents) (AfterFiles files names (next files)) (λ reply of. leads_on files names contents (next files) reply held of) r h
 
 read_refused : (files : Files) (name : List ℕ) (next : List ℕ → Reply → Type 0) (refusal : Refusal) → RefusesRead files name refusal → status_of refusal < 4
     → AfterRead files name next (reply_of refusal)
@@ -72,6 +72,7 @@ read_refused files name next why.TooManyFacts h below = absurd h
 read_refused files name next why.TooManyRows h below = absurd h
 read_refused files name next (why.NotToml told) h below = absurd h
 read_refused files name next (why.Shape told key rule) h below = absurd h
+read_refused files name next (why.DeviceShape told key rule) h below = absurd h
 read_refused files name next (why.At at) h below = absurd h
 read_refused files name next (why.Entry told rule) h below = absurd h
 read_refused files name next (why.Environment told rule) h below = absurd h
@@ -89,10 +90,10 @@ one_refused files (name ∷ names) next refusal (inr h) below =
     after_read files name h.0 (λ bytes. AfterFiles files names (λ rest. next (bytes ∷ rest))) (reply_of refusal) h.1.0 h.1.1 (one_refused files names (λ rest. next (h.0 ∷ rest)) refusal h.2 below)
 
 -- a refusal of the reading is what the reading gives
-pub files_refused : (o : Option Files) (names : List (List ℕ)) (next : List (List ℕ) → Reply → Type 0) (refusal : Refusal) → IfSome o (λ files. RefusesOne files names refusal)
-    → IfSome o (λ files. status_of refusal < 4 → AfterFiles files names next (reply_of refusal))
+pub files_refused : (o : Option Files) (names : List (List ℕ)) (next : Files → List (List ℕ) → Reply → Type 0) (refusal : Refusal) → IfSome o (λ files. RefusesOne files names refusal)
+    → IfSome o (λ files. status_of refusal < 4 → AfterFiles files names (next files) (reply_of refusal))
 files_refused None names next refusal h = tt
-files_refused (Some files) names next refusal h = λ below. one_refused files names next refusal h below
+files_refused (Some files) names next refusal h = λ below. one_refused files names (next files) refusal h below
 
 names_read : (files : Files) (name : List ℕ) (refusal : Refusal) → RefusesRead files name refusal → FaultNames (λ told. told ≡ name) refusal
 names_read files name (why.ReadFault told) h = h
@@ -105,6 +106,7 @@ names_read files name why.TooManyFacts h = tt
 names_read files name why.TooManyRows h = tt
 names_read files name (why.NotToml told) h = tt
 names_read files name (why.Shape told key rule) h = tt
+names_read files name (why.DeviceShape told key rule) h = tt
 names_read files name (why.At at) h = tt
 names_read files name (why.Entry told rule) h = tt
 names_read files name (why.Environment told rule) h = tt
@@ -121,18 +123,19 @@ names_one files (name ∷ names) refusal (inr h) =
     names_weaker (IsReached files names) (IsReached files (name ∷ names)) (λ told of. inr (h.0, h.1, of)) (Err refusal) (names_one files names refusal h.2)
 
 -- a read fault names a file that is reached
-pub files_named : (o : Option Files) (names : List (List ℕ)) (refusal : Refusal) → IfSome o (λ files. RefusesOne files names refusal) → IfSome o (λ files. FaultNames (MayBeReached files names) refusal)
-files_named None names refusal h = tt
-files_named (Some files) names refusal h =
-    names_weaker (IsReached files names) (MayBeReached files names) (λ name of. inl of) (Err refusal) (names_one files names refusal h)
+pub files_named : (o : Option Files) (w : Work) (names : List (List ℕ)) (refusal : Refusal) → IfSome o (λ files. RefusesOne files names refusal)
+    → IfSome o (λ files. FaultNames (Beside w (MayBeReached files names)) refusal)
+files_named None w names refusal h = tt
+files_named (Some files) w names refusal h =
+    names_weaker (IsReached files names) (Beside w (MayBeReached files names)) (λ name of. inr (inl of)) (Err refusal) (names_one files names refusal h)
 
 -- a read fault of files that are all held names one that they include
-pub included_named : (o : Option Files) (names contents : List (List ℕ)) (r : Outcome) → IfSome o (λ files. AddsHeld files names [] contents)
-    → IfSome o (λ files. IfErr r (FaultNames (IsIncludedIn files contents))) → IfSome o (λ files. IfErr r (FaultNames (MayBeReached files names)))
-included_named None names contents r adds h = tt
-included_named (Some files) names contents r adds h =
+pub included_named : (o : Option Files) (w : Work) (names contents : List (List ℕ)) (r : Outcome) → IfSome o (λ files. AddsHeld files names [] contents)
+    → IfSome o (λ files. IfErr r (FaultNames (Beside w (IsIncludedIn files contents)))) → IfSome o (λ files. IfErr r (FaultNames (Beside w (MayBeReached files names))))
+included_named None w names contents r adds h = tt
+included_named (Some files) w names contents r adds h =
     let held : AllHold files names contents = subst (AllHold files names) (sym adds.1) adds.2 in
-    names_weaker (IsIncludedIn files contents) (MayBeReached files names) (λ name of. inr (contents, held, of)) r h
+    beside_weaker w (IsIncludedIn files contents) (MayBeReached files names) (λ name of. inr (contents, held, of)) r h
 
 -- a refusal of what is read is no reading
 pub input_named : (P : List ℕ → Type 0) (refusal : Refusal) → IsOfInput refusal → FaultNames P refusal
@@ -145,6 +148,7 @@ input_named P why.TooManyFacts h = tt
 input_named P why.TooManyRows h = tt
 input_named P (why.NotToml name) h = tt
 input_named P (why.Shape name key rule) h = tt
+input_named P (why.DeviceShape name key rule) h = tt
 input_named P (why.At at) h = tt
 input_named P (why.Entry name rule) h = tt
 input_named P (why.Environment name rule) h = tt
@@ -165,6 +169,7 @@ status_3 why.TooManyFacts h below = refl
 status_3 why.TooManyRows h below = refl
 status_3 (why.NotToml name) h below = refl
 status_3 (why.Shape name key rule) h below = refl
+status_3 (why.DeviceShape name key rule) h below = refl
 status_3 (why.At at) h below = refl
 status_3 (why.Entry name rule) h below = refl
 status_3 (why.Environment name rule) h below = refl
@@ -183,13 +188,24 @@ refuses meant refused kind (inr e) below = absurd (omega (arith, subst (λ r. st
 
 -- what is told of the files is told of the project that names them
 pub document_told : (o : Option Files) (w : Work) (name bytes : List ℕ) (project : Project) (r : Outcome) → IsProject bytes project
-    → IfSome o (λ files. Tells (AfterFiles files (file_names_of project.files) (OfFiles w name bytes project)) r) → IfSome o (λ files. Tells (OfBytes w files name bytes) r)
+    → IfSome o (λ files. Tells (AfterFiles files (file_names_of project.files) (OfFiles w files name bytes project)) r) → IfSome o (λ files. Tells (OfBytes w files name bytes) r)
 document_told None w name bytes project r is h = tt
 document_told (Some files) w name bytes project r is h =
-    tells_weaker (AfterFiles files (file_names_of project.files) (OfFiles w name bytes project)) (OfBytes w files name bytes) (λ reply of. inr (inr (project, is, of))) r h
+    tells_weaker (AfterFiles files (file_names_of project.files) (OfFiles w files name bytes project)) (OfBytes w files name bytes) (λ reply of. inr (inr (project, is, of))) r h
 
-pub document_named : (o : Option Files) (bytes : List ℕ) (project : Project) (r : Outcome) → IsProject bytes project
-    → IfSome o (λ files. IfErr r (FaultNames (MayBeReached files (file_names_of project.files)))) → IfSome o (λ files. IfErr r (FaultNames (IsNamed files bytes)))
-document_named None bytes project r is h = tt
-document_named (Some files) bytes project r is h =
-    names_weaker (MayBeReached files (file_names_of project.files)) (IsNamed files bytes) (λ name of. (project, is, of)) r h
+pub document_named : (o : Option Files) (w : Work) (bytes : List ℕ) (project : Project) (r : Outcome) → IsProject bytes project
+    → IfSome o (λ files. IfErr r (FaultNames (Beside w (MayBeReached files (file_names_of project.files))))) → IfSome o (λ files. IfErr r (FaultNames (Beside w (IsNamed files bytes))))
+document_named None w bytes project r is h = tt
+document_named (Some files) w bytes project r is h =
+    beside_weaker w (MayBeReached files (file_names_of project.files)) (IsNamed files bytes) (λ name of. (project, is, of)) r h
+
+-- what is told whatever the files are is told over them
+pub some_told : (o : Option Files) (P : Reply → Type 0) (r : Outcome) → Tells P r → IfSome o (λ files. Tells P r)
+some_told None P r h = tt
+some_told (Some files) P r h = h
+
+-- a read fault of an included file may be one of those and the file of devices
+pub included_beside : (o : Option Files) (w : Work) (contents : List (List ℕ)) (r : Outcome) → IfSome o (λ files. IfErr r (FaultNames (IsIncludedIn files contents)))
+    → IfSome o (λ files. IfErr r (FaultNames (Beside w (IsIncludedIn files contents))))
+included_beside None w contents r h = tt
+included_beside (Some files) w contents r h = names_weaker (IsIncludedIn files contents) (Beside w (IsIncludedIn files contents)) (λ name of. inr of) r h

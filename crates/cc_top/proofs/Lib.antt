@@ -1,4 +1,5 @@
 pub mod CheckFacts
+pub mod DeviceFacts
 pub mod FrontFacts
 pub mod EndFacts
 pub mod GeneratedFacts

@@ -11,14 +11,14 @@ use Rattle.cc_project.specs.Project.{Project, project_of}
 use Rattle.cc_project.specs.Outcome.{IsFault, IsProject}
 use Rattle.cc_project.specs.WellMade.{file_names_of}
 use Rattle.cc_project.specs.declared.fault.ProjectFault.TheVariants.{Shape}
-use Rattle.cc_top.specs.Words.{words_of}
+use Rattle.cc_top.specs.Words.{devices_words, words_of}
 use Rattle.cc_top.specs.declared.words.Task.{Task}
 use Rattle.cc_top.specs.declared.words.Task.TheVariants as task
 use Rattle.cc_top.specs.declared.work.Work.{Work}
-use Rattle.cc_top.proofs.Tells.{no_generated}
-use Rattle.cc_top.specs.Answer.{Reply, refused, AfterRead, AfterFiles, OfBytes, OfFiles, IsAnswer, work_of}
+use Rattle.cc_top.proofs.Tells.{devices_no_task, devices_not_generated, no_generated}
+use Rattle.cc_top.specs.Answer.{Reply, refused, AfterRead, AfterFiles, OfBytes, OfDeviceBytes, OfDevices, OfFiles, OfProject, IsAnswer, work_of}
 use Rattle.cc_top.specs.Holds.{AllHold, Holds}
-use Rattle.cc_top.specs.Reads.{IsReached, IsReadFor, Reads, Fails, Lacks, Passes}
+use Rattle.cc_top.specs.Reads.{IsReached, IsReadBehind, IsReadFor, Reads, Fails, Lacks, Passes}
 
 at_read : (files : Files) (name line : List ℕ) (next : List ℕ → Reply → Type 0) (reply : Reply) → Fails files name line → AfterRead files name next reply → reply ≡ refused line 3
 at_read files name line next reply (Lacks is) after = rw is at after
@@ -38,12 +38,12 @@ not_both bytes project key rule is fault =
     let same = same_Some _ _ (sym is.1.parsed ∙ fault.1.parsed) in
     absurd (let e = sym is.2 ∙ ap (λ d. shape_fault (table d)) same ∙ fault.2 in cc)
 
-pub of_checked : (w : Work) (files : Files) (name bytes : List ℕ) (project : Project) (reply : Reply) → IsProject bytes project → OfBytes w files name bytes reply
-    → AfterFiles files (file_names_of project.files) (OfFiles w name bytes project) reply
-of_checked w files name bytes project reply is (inl p) = absurd (p.0 is.0 is.1)
-of_checked w files name bytes project reply is (inr (inl p)) = not_both bytes project p.0 p.1 is p.2
-of_checked w files name bytes project reply is (inr (inr p)) =
-    subst (λ q. AfterFiles files (file_names_of q.files) (OfFiles w name bytes q) reply) (same_checked bytes p.0 project p.1 is) p.2
+pub of_checked : (next : Project → List (List ℕ) → Reply → Type 0) (files : Files) (name bytes : List ℕ) (project : Project) (reply : Reply) → IsProject bytes project
+    → OfProject next files name bytes reply → AfterFiles files (file_names_of project.files) (next project) reply
+of_checked next files name bytes project reply is (inl p) = absurd (p.0 is.0 is.1)
+of_checked next files name bytes project reply is (inr (inl p)) = not_both bytes project p.0 p.1 is p.2
+of_checked next files name bytes project reply is (inr (inr p)) =
+    subst (λ q. AfterFiles files (file_names_of q.files) (next q) reply) (same_checked bytes p.0 project p.1 is) p.2
 
 -- files that are held lead on
 pub past_files : (files : Files) (names contents : List (List ℕ)) (next : List (List ℕ) → Reply → Type 0) (reply : Reply) → AllHold files names contents
@@ -63,14 +63,36 @@ files_fail files (other ∷ others) next name line reply (inr r) fails after =
     files_fail files others (λ rest. next (r.0 ∷ rest)) name line reply r.2 fails
     (past_read files other r.0 (λ bytes. AfterFiles files others (λ rest. next (bytes ∷ rest))) reply r.1 after)
 
-bytes_fail : (w : Work) (files : Files) (project_name name line : List ℕ) (reply : Reply) → IsReadFor files project_name name → Fails files name line
-    → AfterRead files project_name (OfBytes w files project_name) reply → reply ≡ refused line 3
-bytes_fail w files project_name name line reply reads fails after =
-    ⊎_elim (λ e. at_read files project_name line (OfBytes w files project_name) reply (subst (λ n. Fails files n line) e fails) after)
+-- what leads on from the bytes of a project file, by the project that they say
+abbrev After : Type 1
+After = List ℕ → Project → List (List ℕ) → Reply → Type 0
+
+abbrev of_bytes : After → Files → List ℕ → List ℕ → Reply → Type 0
+of_bytes next files name bytes reply = OfProject (next bytes) files name bytes reply
+
+bytes_fail : (next : After) (files : Files) (project_name name line : List ℕ) (reply : Reply) → IsReadFor files project_name name → Fails files name line
+    → AfterRead files project_name (of_bytes next files project_name) reply → reply ≡ refused line 3
+bytes_fail next files project_name name line reply reads fails after =
+    ⊎_elim (λ e. at_read files project_name line (of_bytes next files project_name) reply (subst (λ n. Fails files n line) e fails) after)
     (λ q.
-    let behind = of_checked w files project_name q.0 q.1 reply q.3 (past_read files project_name q.0 (OfBytes w files project_name) reply q.2 after) in
-    files_fail files (file_names_of q.1.files) (OfFiles w project_name q.0 q.1) name line reply q.4 fails behind)
+    let behind = of_checked (next q.0) files project_name q.0 q.1 reply q.3 (past_read files project_name q.0 (of_bytes next files project_name) reply q.2 after) in
+    files_fail files (file_names_of q.1.files) (next q.0 q.1) name line reply q.4 fails behind)
     reads
+
+-- what leads on from the file of devices
+abbrev devices_after : List ℕ → Files → After
+devices_after devices files bytes project contents reply = AfterRead files devices (OfDevices devices project) reply
+
+behind_fails : (files : Files) (project_name devices name line : List ℕ) (reply : Reply) → IsReadBehind files project_name devices name → Fails files name line
+    → AfterRead files project_name (OfDeviceBytes devices files project_name) reply → reply ≡ refused line 3
+behind_fails files project_name devices name line reply reads fails after =
+    let bytes = reads.0 in
+    let project = reads.1 in
+    let contents = reads.2 in
+    let read = past_read files project_name bytes (OfDeviceBytes devices files project_name) reply reads.3 after in
+    let behind = of_checked (devices_after devices files bytes) files project_name bytes project reply reads.4 read in
+    let last = past_files files (file_names_of project.files) contents (devices_after devices files bytes project) reply reads.5 behind in
+    at_read files devices line (OfDevices devices project) reply (subst (λ n. Fails files n line) reads.6 fails) last
 
 -- words that ask for something ask for one thing alone
 pub same_name : (t u : Task) (p q : List ℕ) → words_of t p ≡ words_of u q → p ≡ q
@@ -106,12 +128,33 @@ asked words files t name reply is (inr (inl p)) =
     let e : words_of p.0 p.1 ≡ words_of t name = sym p.2 ∙ is in
     let named : AfterRead files name (OfBytes (work_of p.0) files name) reply = subst (λ n. AfterRead files n (OfBytes (work_of p.0) files n) reply) (same_name p.0 t p.1 name e) p.3 in
     subst (λ u. AfterRead files name (OfBytes (work_of u) files name) reply) (same_task p.0 t p.1 name e) named
-asked words files t name reply is (inr (inr p)) = absurd (no_generated t name p.0 (sym is ∙ p.2))
+asked words files t name reply is (inr (inr (inl p))) = absurd (no_generated t name p.0 (sym is ∙ p.2))
+asked words files t name reply is (inr (inr (inr p))) = devices_no_task words p.0 p.1 t name p.2 is
+
+same_project : (a b c d : List ℕ) → devices_words a b ≡ devices_words c d → a ≡ c
+same_project a b c d e = cc
+
+same_devices : (a b c d : List ℕ) → devices_words a b ≡ devices_words c d → b ≡ d
+same_devices a b c d e = cc
+
+-- the answer to words that ask for device couplings
+pub devices_asked : (words : List (List ℕ)) (files : Files) (name devices : List ℕ) (reply : Reply) → words ≡ devices_words name devices → IsAnswer words files reply
+    → AfterRead files name (OfDeviceBytes devices files name) reply
+devices_asked words files name devices reply is (inl p) = absurd (p.0.2 name devices is)
+devices_asked words files name devices reply is (inr (inl p)) = devices_no_task words name devices p.0 p.1 is p.2
+devices_asked words files name devices reply is (inr (inr (inl p))) = devices_not_generated words name devices p.0 is p.2
+devices_asked words files name devices reply is (inr (inr (inr p))) =
+    let e : devices_words p.0 p.1 ≡ devices_words name devices = sym p.2 ∙ is in
+    let named = subst (λ n. AfterRead files n (OfDeviceBytes p.1 files n) reply) (same_project p.0 p.1 name devices e) p.3 in
+    subst (λ d. AfterRead files name (OfDeviceBytes d files name) reply) (same_devices p.0 p.1 name devices e) named
 
 pub reached_fails : (words : List (List ℕ)) (files : Files) (name line : List ℕ) (reply : Reply) → Reads words files name → Fails files name line → IsAnswer words files reply
     → reply ≡ refused line 3
-reached_fails words files name line reply reads fails answer =
-    bytes_fail (work_of reads.0) files reads.1 name line reply reads.3 fails (asked words files reads.0 reads.1 reply reads.2 answer)
+reached_fails words files name line reply (inl reads) fails answer =
+    bytes_fail (OfFiles (work_of reads.0) files reads.1) files reads.1 name line reply reads.3 fails (asked words files reads.0 reads.1 reply reads.2 answer)
+reached_fails words files name line reply (inr reads) fails answer =
+    let after = devices_asked words files reads.0 reads.1 reply reads.2 answer in
+    ⊎_elim (λ r. bytes_fail (devices_after reads.1 files) files reads.0 name line reply r fails after) (λ r. behind_fails files reads.0 reads.1 name line reply r fails after) reads.3
 
 -- so a status below 4 is 3, with that line on err and nothing on out
 pub reached_answer : (o : Option Files) (words : List (List ℕ)) (out out' err err' : Option (List ℕ)) (result : ℕ) → IfSome o (λ files. Answers words files out out' err err' result)

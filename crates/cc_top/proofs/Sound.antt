@@ -77,8 +77,8 @@ table_of words files name reply lists well first answer =
     let checked = first.1 in
     let contents = first.2 in
     let read = past_read files name bytes (OfBytes work.List files name) reply first.3 (asked words files task.List name reply lists answer) in
-    let after = of_checked work.List files name bytes checked reply first.4 read in
-    let of = past_files files (file_names_of checked.files) contents (OfFiles work.List name bytes checked) reply first.5 after in
+    let after = of_checked (OfFiles work.List files name bytes) files name bytes checked reply first.4 read in
+    let of = past_files files (file_names_of checked.files) contents (OfFiles work.List files name bytes checked) reply first.5 after in
     table_of_listed words files name bytes checked contents reply well lists first.3 first.5 first.6 of
 
 -- the line of a row stands behind the lines of the rows before it, of which the first has this number

@@ -3,21 +3,42 @@ use Rattle.std.proofs.Common.{◌≡◌, ◌≢◌, ◌<◌, ◌≤◌, ◌⊎�
 use Rattle.std.proofs.lemmas.Bool.{cases_lt}
 use Rattle.std.specs.Fmt.{decimal}
 use Rattle.std.proofs.lemmas.Fmt.{decimal_digit, decimal_step}
-use Rattle.cc_top.specs.Words.{IsCommand, IsCommandOf, IsCount, IsNoCommand, IsNoCommandOf, gen_word, two_words, word_of}
+use Rattle.cc_top.specs.Words.{IsCommand, IsCommandOf, IsCount, IsNoCommand, IsNoCommandOf, devices_word, devices_words, gen_word, three_words, two_words, word_of}
 use Rattle.cc_top.specs.declared.words.Command.{Command}
 use Rattle.cc_top.specs.declared.words.Command.TheVariants as command
 use Rattle.cc_top.specs.declared.words.Task.{Task}
 use Rattle.cc_top.specs.declared.words.Task.TheVariants as task
 
+-- two words are not three
+pub two_are_not_three : {A : Type 0} (a b c d e : List ℕ) → two_words a b ≡ three_words c d e → A
+two_are_not_three a b c d e same =
+    let f : 2 ≡ 3 = ap (λ (w : List (List ℕ)). length w) same in
+    absurd (omega (arith, f))
+
 -- two words that are this command
 pub command_told : (word argument : List ℕ) (c : Command) → IsCommandOf word argument c → IsCommand (two_words word argument) c
 command_told word argument (command.Project t name) h = let e = h.0 in let f = h.1 in cc
 command_told word argument (command.Generated n) h = (h.1, let e = h.0 in let f = h.2 in cc)
+command_told word argument (command.Devices name devices) h = absurd h
 
 -- two words that are no command
 pub no_command_told : (word argument : List ℕ) → IsNoCommandOf word argument → IsNoCommand (two_words word argument)
-no_command_told word argument none =
-    (λ t project e. none.0 t (let f = e in cc), λ n count e. none.1 (let f = e in cc) n count (let f = e in cc))
+no_command_told word argument none = (
+  λ t project e. none.0 t (let f = e in cc),
+  λ n count e. none.1 (let f = e in cc) n count (let f = e in cc),
+  λ project devices e. two_are_not_three word argument devices_word project devices e,
+)
+
+-- and three
+pub devices_told : (word name devices : List ℕ) → word ≡ devices_word → three_words word name devices ≡ devices_words name devices
+devices_told word name devices is = ap (λ w. three_words w name devices) is
+
+pub no_devices_told : (word name devices : List ℕ) → word ≢ devices_word → IsNoCommand (three_words word name devices)
+no_devices_told word name devices none = (
+  λ t project e. two_are_not_three (word_of t) project word name devices (sym e),
+  λ n count e. two_are_not_three gen_word (decimal n) word name devices (sym e),
+  λ project others e. none (let f = e in cc),
+)
 
 -- the text of a number of two digits
 two_digits : (n : ℕ) → 10 ≤ n → n ≤ 60 → decimal n ≡ (48 + n / 10) ∷ (48 + n % 10) ∷ []
@@ -75,6 +96,6 @@ gen_is_no_task word is task.Pairs = λ e. let f = sym is ∙ e in cc
 gen_is_no_task word is task.Reduce = λ e. let f = sym is ∙ e in cc
 gen_is_no_task word is task.Order = λ e. let f = sym is ∙ e in cc
 
--- words that aren't two are no command
-pub no_two : (words : List (List ℕ)) → length words ≢ 2 → IsNoCommand words
-no_two words not = (λ t project e. not (ap length e), λ n count e. not (ap length e))
+-- words that aren't two or three are no command
+pub no_command : (words : List (List ℕ)) → length words ≢ 2 → length words ≢ 3 → IsNoCommand words
+no_command words two three = (λ t project e. two (ap length e), λ n count e. two (ap length e), λ project devices e. three (ap length e))

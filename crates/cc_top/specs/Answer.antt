@@ -9,6 +9,11 @@ use Rattle.cc_first.specs.Unit.{program_of}
 use Rattle.cc_first_list.specs.First.{IsFirst}
 use Rattle.cc_first_list.specs.Points.{points, most_points}
 use Rattle.cc_gen.specs.Generated.{generated}
+use Rattle.cc_device.specs.Outcome.{IsDevices, IsFault as IsDeviceFault}
+use Rattle.cc_device.specs.declared.device.Device.{Device}
+use Rattle.cc_device.specs.declared.fault.DeviceFault.{DeviceFault}
+use Rattle.cc_device_runs.specs.Reports.{IsReport as IsDeviceReport}
+use Rattle.cc_device_runs.specs.declared.fault.DeviceReportFault.{DeviceReportFault}
 use Rattle.cc_front.specs.declared.fault.FrontFault.{FrontFault}
 use Rattle.cc_listing.specs.Answers.{IsTable, RefusedWhole}
 use Rattle.cc_listing.specs.declared.fault.ListFault.{ListFault}
@@ -25,7 +30,7 @@ use Rattle.cc_reports.specs.declared.kinds.Report.{Report}
 use Rattle.cc_reports.specs.declared.kinds.Report.TheVariants.{Score, Tests, Pairs, Summary, Reduce, Order}
 use Rattle.cc_tests.specs.Bound.{AreBound}
 use Rattle.cc_top.specs.Justified.{justifications}
-use Rattle.cc_top.specs.Words.{IsCount, IsNoCommand, gen_words, words_of}
+use Rattle.cc_top.specs.Words.{IsCount, IsNoCommand, devices_words, gen_words, words_of}
 use Rattle.cc_top.specs.declared.words.Task.{Task}
 use Rattle.cc_top.specs.declared.words.Task.TheVariants as task
 use Rattle.cc_top.specs.declared.work.Work.{Work}
@@ -33,7 +38,7 @@ use Rattle.cc_top.specs.declared.work.Work.TheVariants as work
 use Rattle.cc_top.specs.declared.refusal.Internal.TheVariants.{Generated}
 use Rattle.cc_top.specs.declared.refusal.Refusal.{Refusal}
 use Rattle.cc_top.specs.Refusal.{usage_line, missing_line, long_line, points_line, not_toml_line, shape_line, internal_line, line_of, status_of}
-use Rattle.cc_top.specs.Refused.{of_front, of_listing, of_report}
+use Rattle.cc_top.specs.Refused.{of_device_report, of_devices, of_front, of_listing, of_report}
 
 -- what is added to out and to err, and the status
 pub record Reply : Type 0 where
@@ -134,18 +139,43 @@ OfReport what name project reply =
     RefusesFiles project reply
     ⊎ ((P : Program) × (tests : List Test) × AreBound P project.tests tests × OfProgram what name P tests (justifications project) reply)
 
--- what is done over files that are read, where the project file has this name and these bytes
-abbrev pub OfFiles : Work → (name bytes : List ℕ) → Project → List (List ℕ) → Reply → Type 0
-OfFiles work.List name bytes project contents reply = OfListed bytes project contents reply
-OfFiles work.Check name bytes project contents reply = OfChecked project contents reply
-OfFiles (work.Report what) name bytes project contents reply = OfReport what name project reply
+-- it is the report on the devices of a program with these tests, or there is none for a fault: when that comes no definition
+-- says yet
+abbrev pub OfDeviceProgram : Program → List Test → List Device → Reply → Type 0
+OfDeviceProgram P tests devices reply =
+    ((text : List ℕ) × (is_met : Bool) × IsDeviceReport P tests devices text is_met × (reply ≡ made text is_met))
+    ⊎ ((fault : DeviceReportFault) × Refuses (of_device_report fault) reply)
 
--- the bytes are no document, or one that breaks a rule, or a project, whose files are read in their order
-abbrev pub OfBytes : Work → Files → List ℕ → List ℕ → Reply → Type 0
-OfBytes w files name bytes reply =
+-- The files are refused by the front end; or the file of devices of this name with these bytes is; or there is a program, and it
+-- is the report on its devices with the tests of the project. That the program is that of the files no definition says yet.
+abbrev pub OfDevices : (name : List ℕ) → Project → (bytes : List ℕ) → Reply → Type 0
+OfDevices name project bytes reply =
+    RefusesFiles project reply
+    ⊎ ((fault : DeviceFault) × IsDeviceFault project.environment bytes fault × Refuses (of_devices name fault) reply)
+    ⊎ ((P : Program) × (tests : List Test) × AreBound P project.tests tests
+    × ((all : List Device) × IsDevices project.environment bytes all × OfDeviceProgram P tests all reply))
+
+-- what is done over files that are read, where the project file has this name and these bytes
+abbrev pub OfFiles : Work → Files → (name bytes : List ℕ) → Project → List (List ℕ) → Reply → Type 0
+OfFiles work.List files name bytes project contents reply = OfListed bytes project contents reply
+OfFiles work.Check files name bytes project contents reply = OfChecked project contents reply
+OfFiles (work.Report what) files name bytes project contents reply = OfReport what name project reply
+OfFiles (work.Devices devices) files name bytes project contents reply = AfterRead files devices.now (OfDevices devices.now project) reply
+
+-- the bytes are no document, or one that breaks a rule, or a project, whose files are read in their order and lead on
+abbrev pub OfProject : (Project → List (List ℕ) → Reply → Type 0) → Files → (name bytes : List ℕ) → Reply → Type 0
+OfProject next files name bytes reply =
     (IsFault bytes NotToml × (reply ≡ refused (not_toml_line name) 3))
     ⊎ ((key : List ℕ) × (rule : ℕ) × IsFault bytes (Shape key rule) × (reply ≡ refused (shape_line name key rule) 3))
-    ⊎ ((project : Project) × IsProject bytes project × AfterFiles files (file_names_of project.files) (OfFiles w name bytes project) reply)
+    ⊎ ((project : Project) × IsProject bytes project × AfterFiles files (file_names_of project.files) (next project) reply)
+
+-- what is done over the files of a project, where the project file has this name and these bytes
+abbrev pub OfBytes : Work → Files → (name bytes : List ℕ) → Reply → Type 0
+OfBytes w files name bytes reply = OfProject (OfFiles w files name bytes) files name bytes reply
+
+-- the same for the device couplings: the file of devices is read after those of the project
+abbrev pub OfDeviceBytes : (devices : List ℕ) → Files → (name bytes : List ℕ) → Reply → Type 0
+OfDeviceBytes devices files name bytes reply = OfProject (λ project contents. AfterRead files devices (OfDevices devices project)) files name bytes reply
 
 -- what is done for a task
 abbrev pub work_of : Task → Work
@@ -174,3 +204,4 @@ IsAnswer words files reply =
     (IsNoCommand words × (reply ≡ refused usage_line 2))
     ⊎ ((t : Task) × (name : List ℕ) × (words ≡ words_of t name) × AfterRead files name (OfBytes (work_of t) files name) reply)
     ⊎ ((n : ℕ) × IsCount n × (words ≡ gen_words n) × OfGenerated n reply)
+    ⊎ ((name devices : List ℕ) × (words ≡ devices_words name devices) × AfterRead files name (OfDeviceBytes devices files name) reply)

@@ -16,11 +16,11 @@ use Rattle.cc_top.specs.declared.refusal.At.{At}
 use Rattle.cc_top.specs.declared.refusal.Internal.{Internal as Inner}
 use Rattle.cc_top.specs.declared.refusal.Internal.TheVariants as inner
 use Rattle.cc_top.specs.declared.refusal.Refusal.{Refusal}
-use Rattle.cc_top.specs.declared.refusal.Refusal.TheVariants.{Usage, ReadFault, Missing, TooLong, NotToml, Shape, Entry, Environment, Test, TooManyNodes, TooManyPoints, TooManyFacts, TooManyRows, NoSuchRow, Covered, Internal, Memory}
+use Rattle.cc_top.specs.declared.refusal.Refusal.TheVariants.{Usage, ReadFault, Missing, TooLong, NotToml, Shape, DeviceShape, Entry, Environment, Test, TooManyNodes, TooManyPoints, TooManyFacts, TooManyRows, NoSuchRow, Covered, Internal, Memory}
 use Rattle.cc_top.specs.declared.refusal.Refusal.TheVariants as refusal
 
 abbrev pub usage_line : List ℕ
-usage_line = codes "usage: coupling check|list|score|tests|pairs P | gen N | reduce P | order P\n"
+usage_line = codes "usage: coupling check|list|score|tests|pairs P | gen N | devices P D | reduce P | order P\n"
 
 abbrev pub missing_line : List ℕ → List ℕ
 missing_line name = name ++ codes ": missing\n"
@@ -41,6 +41,10 @@ not_toml_line name = name ++ codes ": not TOML\n"
 -- a rule of the project file that fails at a key
 abbrev pub shape_line : (name key : List ℕ) (rule : ℕ) → List ℕ
 shape_line name key rule = name ++ (codes ": J" ++ (decimal rule ++ (codes " " ++ (key ++ codes "\n"))))
+
+-- a rule of the file of devices that fails at a key
+abbrev pub devices_line : (name key : List ℕ) (rule : ℕ) → List ℕ
+devices_line name key rule = name ++ (codes ": V" ++ (decimal rule ++ (codes " " ++ (key ++ codes "\n"))))
 
 -- what is wrong at a place
 abbrev pub fault_text : Fault → List ℕ
@@ -92,6 +96,7 @@ line_of (Missing name) = missing_line name
 line_of (TooLong name) = long_line name
 line_of (NotToml name) = not_toml_line name
 line_of (Shape name key rule) = shape_line name key rule
+line_of (DeviceShape name key rule) = devices_line name key rule
 line_of (refusal.At at) = at_line at
 line_of (Entry name rule) = entry_line name rule
 line_of (Environment name rule) = environment_line name rule

@@ -1,6 +1,10 @@
 -- The refusals that faults are: of the front end, of a listing, of a report.
 use Rattle.std.specs.Prelude.{◌≡◌, ◌⊎◌, ℕ, List, Option, Some, None, slice_get}
 use Rattle.cc_base.specs.declared.place.Spot.{Spot}
+use Rattle.cc_device.specs.declared.fault.DeviceFault.{DeviceFault}
+use Rattle.cc_device.specs.declared.fault.DeviceFault.TheVariants as device
+use Rattle.cc_device_runs.specs.declared.fault.DeviceReportFault.{DeviceReportFault}
+use Rattle.cc_device_runs.specs.declared.fault.DeviceReportFault.TheVariants as uses
 use Rattle.cc_front.specs.declared.fault.Fault.{Fault}
 use Rattle.cc_front.specs.declared.fault.FrontFault.{FrontFault}
 use Rattle.cc_front.specs.declared.fault.FrontFault.TheVariants as front
@@ -87,6 +91,18 @@ of_report name tests (report.Covered conflict) = of_conflict name conflict (boun
 of_report name tests report.Lost = why.Internal inner.Machine
 of_report name tests report.Unfit = why.Internal inner.Watched
 of_report name tests report.Memory = why.Memory
+
+-- the refusal that a fault of the file of devices is, where the file has this name
+abbrev pub of_devices : (name : List ℕ) → DeviceFault → Refusal
+of_devices name device.NotToml = why.NotToml name
+of_devices name (device.Shape key rule) = why.DeviceShape name key rule
+of_devices name device.Memory = why.Memory
+
+-- the refusal that a fault of the report on devices is
+abbrev pub of_device_report : DeviceReportFault → Refusal
+of_device_report (uses.List fault) = of_listing fault
+of_device_report uses.Lost = why.Internal inner.Machine
+of_device_report uses.Memory = why.Memory
 
 -- it is this refusal, or memory was wanting for its names
 abbrev pub IsRefusal : Refusal → Refusal → Type 0

@@ -39,16 +39,29 @@ gen_words n = two_words gen_word (decimal n)
 abbrev pub IsCount : ℕ → Type 0
 IsCount n = (1 ≤ n) × (n ≤ 60)
 
+-- a word with two others
+abbrev pub three_words : List ℕ → List ℕ → List ℕ → List (List ℕ)
+three_words word first second = word ∷ first ∷ second ∷ []
+
+abbrev pub devices_word : List ℕ
+devices_word = codes "devices"
+
+-- the words that ask for the device couplings of a project, by this file of devices
+abbrev pub devices_words : (project devices : List ℕ) → List (List ℕ)
+devices_words project devices = three_words devices_word project devices
+
 -- the words are no command
 abbrev pub IsNoCommand : List (List ℕ) → Type 0
 IsNoCommand words =
     ((t : Task) (project : List ℕ) → words ≢ words_of t project)
     × ((n : ℕ) → IsCount n → words ≢ gen_words n)
+    × ((project devices : List ℕ) → words ≢ devices_words project devices)
 
 -- the words are this command
 abbrev pub IsCommand : List (List ℕ) → Command → Type 0
 IsCommand words (command.Project t name) = words ≡ words_of t name.now
 IsCommand words (command.Generated n) = IsCount n × (words ≡ gen_words n)
+IsCommand words (command.Devices name devices) = words ≡ devices_words name.now devices.now
 
 -- the same of two words
 abbrev pub IsNoCommandOf : List ℕ → List ℕ → Type 0
@@ -59,3 +72,4 @@ IsNoCommandOf word argument =
 abbrev pub IsCommandOf : List ℕ → List ℕ → Command → Type 0
 IsCommandOf word argument (command.Project t name) = (word ≡ word_of t) × (argument ≡ name.now)
 IsCommandOf word argument (command.Generated n) = (word ≡ gen_word) × IsCount n × (argument ≡ decimal n)
+IsCommandOf word argument (command.Devices name devices) = ⊥

@@ -7,6 +7,8 @@ ghost use Rattle.cc_top.specs.Refused as spec;
 use crate::reading::text_of;
 use crate::refusal::{At, Internal, Refusal};
 use cc_base::{Memory, Spot, Text};
+use cc_device::DeviceFault;
+use cc_device_runs::DeviceReportFault;
 use cc_front::{Fault, FrontFault, Names, PrepFault};
 use cc_listing::ListFault;
 use cc_meaning::TestList;
@@ -163,6 +165,42 @@ pub fn of_listing(fault: ListFault) -> Refusal
         ListFault::TooManyRows => Refusal::TooManyRows,
         ListFault::Internal => Refusal::Internal(Internal::Number),
         ListFault::Memory => Refusal::Memory,
+    }
+}
+
+// The refusal that a fault of the file of devices is.
+fn of_devices_fault(alloc: Global, name: &str, fault: DeviceFault) -> Result<Refusal, Memory>
+    ensures is { IfOk result (λ refusal. refusal ≡ spec.of_devices name.now fault) }
+    ensures input { IfOk result IsOfInput }
+{
+    let name = text_of(alloc, name)?;
+    Ok(match fault {
+        DeviceFault::NotToml => Refusal::NotToml(name),
+        DeviceFault::Shape { key, rule } => Refusal::DeviceShape { name, key, rule },
+        DeviceFault::Memory => Refusal::Memory,
+    })
+}
+
+/// Why the bytes of a file of this name say no devices.
+pub fn of_devices(alloc: Global, name: &str, fault: DeviceFault) -> Refusal
+    ensures is { IsRefusal (spec.of_devices name.now fault) result }
+    ensures input { IsOfInput result }
+{
+    match of_devices_fault(alloc, name, fault) {
+        Ok(refusal) => refusal,
+        Err(_) => Refusal::Memory,
+    }
+}
+
+/// Why there is no report on the devices of a program.
+pub fn of_device_report(fault: DeviceReportFault) -> Refusal
+    ensures is { result ≡ spec.of_device_report fault }
+    ensures input { IsOfInput result }
+{
+    match fault {
+        DeviceReportFault::List(fault) => of_listing(fault),
+        DeviceReportFault::Lost => Refusal::Internal(Internal::Machine),
+        DeviceReportFault::Memory => Refusal::Memory,
     }
 }
 

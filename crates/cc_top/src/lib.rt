@@ -8,6 +8,7 @@
 
 mod call;
 mod check;
+mod devices;
 mod faults;
 mod generated;
 mod list;

@@ -37,10 +37,16 @@ pub enum Refusal {
     Missing(Text),
     /// The file has more than 1,048,576 bytes.
     TooLong(Text),
-    /// The project file is no TOML document.
+    /// The project file, or the file of devices, is no TOML document.
     NotToml(Text),
     /// The project file breaks rule J`rule` at this key.
     Shape {
+        name: Text,
+        key: Text,
+        rule: u8,
+    },
+    /// The file of devices breaks rule V`rule` at this key.
+    DeviceShape {
         name: Text,
         key: Text,
         rule: u8,
@@ -197,13 +203,16 @@ impl Refusal {
         match self {
             Refusal::Usage => String::from_str(
                 alloc,
-                "usage: coupling check|list|score|tests|pairs P | gen N | reduce P | order P\n",
+                "usage: coupling check|list|score|tests|pairs P | gen N | devices P D | reduce P | order P\n",
             ),
             Refusal::ReadFault(name) => format!(in alloc; "{name}: read fault\n"),
             Refusal::Missing(name) => format!(in alloc; "{name}: missing\n"),
             Refusal::TooLong(name) => format!(in alloc; "{name}: too long\n"),
             Refusal::NotToml(name) => format!(in alloc; "{name}: not TOML\n"),
             Refusal::Shape { name, key, rule } => format!(in alloc; "{name}: J{rule} {key}\n"),
+            Refusal::DeviceShape { name, key, rule } => {
+                format!(in alloc; "{name}: V{rule} {key}\n")
+            }
             Refusal::At(at) => at.line(alloc),
             Refusal::Entry { name, rule } => format!(in alloc; "entry {name}: link K{rule}\n"),
             Refusal::Environment { name, rule } => {

@@ -8,12 +8,13 @@ ghost use Rattle.cc_project.specs.WellMade.{file_names_of};
 ghost use Rattle.cc_top.specs.Answer.{AfterFiles, AfterRead, IsAnswer, OfBytes, OfFiles};
 ghost use Rattle.cc_top.specs.Counts.{Caused, NoneFalls, counts_of};
 ghost use Rattle.cc_top.specs.Holds.{IsShort};
-ghost use Rattle.cc_top.specs.Reads.{IsIncludedIn, MayBeReached, MayBeReadFor, MayRead};
+ghost use Rattle.cc_top.specs.Reads.{Beside, IsIncludedIn, MayBeReached, MayBeReadFor, MayRead};
 ghost use Rattle.cc_top.specs.Refusal.{FaultNames, status_of};
 ghost use Rattle.cc_top.specs.Tells.{IsNamed, Tells};
 ghost use Rattle.cc_top.specs.Words.{IsNoCommand, gen_words};
 
 use crate::check::files_checked;
+use crate::devices::devices_reported;
 use crate::faults::of_project;
 use crate::generated::generated_text;
 use crate::list::files_listed;
@@ -32,7 +33,7 @@ use std::alloc::Global;
 fn files_text<S: Shelf>(
     alloc: Global,
     shelf: &mut S,
-    work: Work,
+    work: Work<'_>,
     name: &str,
     bytes: &[u8],
     project: &Project,
@@ -43,17 +44,18 @@ fn files_text<S: Shelf>(
     ensures keeps { S.files shelf.new ≡ S.files shelf.old }
     ensures none_falls { NoneFalls (counts_of (S.faults shelf.old) (S.misses shelf.old) (S.longs shelf.old))
         (counts_of (S.faults shelf.new) (S.misses shelf.new) (S.longs shelf.new)) }
-    ensures told { Tells (OfFiles work name.now bytes.now project.now files.now) result }
+    ensures told { IfSome (S.files shelf.old) (λ held. Tells (OfFiles work.entry held name.now bytes.now project.now files.now) result) }
     ensures caused { IfErr result (Caused (counts_of (S.faults shelf.old) (S.misses shelf.old) (S.longs shelf.old))
         (counts_of (S.faults shelf.new) (S.misses shelf.new) (S.longs shelf.new))) }
     ensures kind { IfErr result (λ refusal. status_of refusal ≢ 2) }
     ensures names { IfSome (S.files shelf.old) (λ held. IfErr result
-        (FaultNames (IsIncludedIn held files.now))) }
+        (FaultNames (Beside work.entry (IsIncludedIn held files.now)))) }
 {
     match work {
         Work::List => files_listed(alloc, shelf, bytes, project, files),
         Work::Check => files_checked(alloc, shelf, project, files),
         Work::Report(what) => files_reported(alloc, shelf, what, name, project, files),
+        Work::Devices(devices) => devices_reported(alloc, shelf, devices, project, files),
     }
 }
 
@@ -61,7 +63,7 @@ fn files_text<S: Shelf>(
 fn project_text<S: Shelf>(
     alloc: Global,
     shelf: &mut S,
-    work: Work,
+    work: Work<'_>,
     name: &str,
     bytes: &[u8],
     project: &Project,
@@ -70,12 +72,12 @@ fn project_text<S: Shelf>(
     ensures none_falls { NoneFalls (counts_of (S.faults shelf.old) (S.misses shelf.old) (S.longs shelf.old))
         (counts_of (S.faults shelf.new) (S.misses shelf.new) (S.longs shelf.new)) }
     ensures told { IfSome (S.files shelf.old) (λ files.
-        Tells (AfterFiles files (file_names_of project.now.files) (OfFiles work name.now bytes.now project.now)) result) }
+        Tells (AfterFiles files (file_names_of project.now.files) (OfFiles work.entry files name.now bytes.now project.now)) result) }
     ensures caused { IfErr result (Caused (counts_of (S.faults shelf.old) (S.misses shelf.old) (S.longs shelf.old))
         (counts_of (S.faults shelf.new) (S.misses shelf.new) (S.longs shelf.new))) }
     ensures kind { IfErr result (λ refusal. status_of refusal ≢ 2) }
     ensures names { IfSome (S.files shelf.old) (λ files. IfErr result
-        (FaultNames (MayBeReached files (file_names_of project.now.files)))) }
+        (FaultNames (Beside work.entry (MayBeReached files (file_names_of project.now.files))))) }
 {
     match read_files(alloc, shelf, project.files.as_slice(), List::new(alloc)) {
         Ok(files) => files_text(alloc, shelf, work, name, bytes, project, &files),
@@ -87,18 +89,18 @@ fn project_text<S: Shelf>(
 fn document_text<S: Shelf>(
     alloc: Global,
     shelf: &mut S,
-    work: Work,
+    work: Work<'_>,
     name: &str,
     bytes: &[u8],
 ) -> Result<Output, Refusal>
     ensures keeps { S.files shelf.new ≡ S.files shelf.old }
     ensures none_falls { NoneFalls (counts_of (S.faults shelf.old) (S.misses shelf.old) (S.longs shelf.old))
         (counts_of (S.faults shelf.new) (S.misses shelf.new) (S.longs shelf.new)) }
-    ensures told { IfSome (S.files shelf.old) (λ files. Tells (OfBytes work files name.now bytes.now) result) }
+    ensures told { IfSome (S.files shelf.old) (λ files. Tells (OfBytes work.entry files name.now bytes.now) result) }
     ensures caused { IfErr result (Caused (counts_of (S.faults shelf.old) (S.misses shelf.old) (S.longs shelf.old))
         (counts_of (S.faults shelf.new) (S.misses shelf.new) (S.longs shelf.new))) }
     ensures kind { IfErr result (λ refusal. status_of refusal ≢ 2) }
-    ensures names { IfSome (S.files shelf.old) (λ files. IfErr result (FaultNames (IsNamed files bytes.now))) }
+    ensures names { IfSome (S.files shelf.old) (λ files. IfErr result (FaultNames (Beside work.entry (IsNamed files bytes.now)))) }
 {
     match read_project(alloc, bytes) {
         Ok(project) => project_text(alloc, shelf, work, name, bytes, &project),
@@ -110,17 +112,17 @@ fn document_text<S: Shelf>(
 pub fn task_text<S: Shelf>(
     alloc: Global,
     shelf: &mut S,
-    work: Work,
+    work: Work<'_>,
     name: &str,
 ) -> Result<Output, Refusal>
     ensures keeps { S.files shelf.new ≡ S.files shelf.old }
     ensures none_falls { NoneFalls (counts_of (S.faults shelf.old) (S.misses shelf.old) (S.longs shelf.old))
         (counts_of (S.faults shelf.new) (S.misses shelf.new) (S.longs shelf.new)) }
-    ensures told { IfSome (S.files shelf.old) (λ files. Tells (AfterRead files name.now (OfBytes work files name.now)) result) }
+    ensures told { IfSome (S.files shelf.old) (λ files. Tells (AfterRead files name.now (OfBytes work.entry files name.now)) result) }
     ensures caused { IfErr result (Caused (counts_of (S.faults shelf.old) (S.misses shelf.old) (S.longs shelf.old))
         (counts_of (S.faults shelf.new) (S.misses shelf.new) (S.longs shelf.new))) }
     ensures kind { IfErr result (λ refusal. status_of refusal ≢ 2) }
-    ensures names { IfSome (S.files shelf.old) (λ files. IfErr result (FaultNames (MayBeReadFor files name.now))) }
+    ensures names { IfSome (S.files shelf.old) (λ files. IfErr result (FaultNames (Beside work.entry (MayBeReadFor files name.now)))) }
 {
     match read_file(alloc, shelf, name) {
         Ok(file) => document_text(alloc, shelf, work, name, file.bytes()),
@@ -147,6 +149,9 @@ pub fn text_for<S: Shelf>(alloc: Global, words: &[String], shelf: &mut S) -> Res
     match command_of(words) {
         Some(Command::Project { task, name }) => task_text(alloc, shelf, task.work(), name),
         Some(Command::Generated(count)) => generated_text(alloc, count),
+        Some(Command::Devices { name, devices }) => {
+            task_text(alloc, shelf, Work::Devices(devices), name)
+        }
         None => Err(Refusal::Usage),
     }
 }

@@ -1,7 +1,7 @@
 // The words of a command line.
 ghost use Rattle.std.specs.Prelude.{◌≡◌, ◌≢◌, ◌≤◌, ◌+◌, ℕ, [], ◌∷◌, IfNone, IfSome, map, string_bytes};
 ghost use Rattle.std.specs.Fmt.{decimal};
-ghost use Rattle.cc_top.specs.Words.{IsCommand, IsCommandOf, IsCount, IsNoCommand, IsNoCommandOf, word_of};
+ghost use Rattle.cc_top.specs.Words.{IsCommand, IsCommandOf, IsCount, IsNoCommand, IsNoCommandOf, three_words, word_of};
 ghost use Rattle.cc_top.specs.declared.words.Task.{Task};
 
 /// What is asked of a project.
@@ -30,6 +30,8 @@ pub enum Command<'a> {
     Project { task: Task, name: &'a str },
     /// The summary of the generated project of this many components.
     Generated(u32),
+    /// The device couplings of the project whose file has this name, by the file of devices of the other name.
+    Devices { name: &'a str, devices: &'a str },
 }
 
 // The task that this word asks for.
@@ -114,13 +116,25 @@ fn command_for<'a>(word: &str, argument: &'a str) -> Option<Command<'a>>
     }
 }
 
+// The command that these three words are.
+fn command_with<'a>(word: &str, name: &'a str, devices: &'a str) -> Option<Command<'a>>
+    ensures some { IfSome result (IsCommand (three_words word.now name.now devices.now)) }
+    ensures none { IfNone result (IsNoCommand (three_words word.now name.now devices.now)) }
+{
+    if word == "devices" {
+        return Some(Command::Devices { name, devices });
+    }
+    None
+}
+
 /// The command that the words are.
 pub fn command_of(words: &[String]) -> Option<Command<'_>>
     ensures some { IfSome result (IsCommand (map string_bytes words.now)) }
     ensures none { IfNone result (IsNoCommand (map string_bytes words.now)) }
 {
-    let [word, argument] = words else {
-        return None;
-    };
-    command_for(word.as_str(), argument.as_str())
+    match words {
+        [word, argument] => command_for(word.as_str(), argument.as_str()),
+        [word, name, devices] => command_with(word.as_str(), name.as_str(), devices.as_str()),
+        _ => None,
+    }
 }

@@ -7,18 +7,20 @@ use cc_reports::Report;
 
 /// What is done over the files of a project.
 #[derive(Clone, Copy)]
-pub enum Work {
+pub enum Work<'a> {
     /// They are listed.
     List,
     /// They are checked.
     Check,
     /// The tests are run, and this is reported of it.
     Report(Report),
+    /// The device couplings are listed and marked, by the file of devices of this name.
+    Devices(&'a str),
 }
 
 impl Task {
     /// What is done for it.
-    pub fn work(self) -> Work
+    pub fn work<'a>(self) -> Work<'a>
         ensures { result ≡ work_of self }
     {
         match self {

@@ -92,8 +92,8 @@ of_first files name first reply answer =
     let contents = first.2 in
     let names = file_names_of checked.files in
     let read = past_read files name bytes (OfBytes work.List files name) reply first.3 (asked (list_words name) files task.List name reply refl answer) in
-    let after = of_checked work.List files name bytes checked reply first.4 read in
-    let of : OfListed bytes checked contents reply = past_files files names contents (OfFiles work.List name bytes checked) reply first.5 after in
+    let after = of_checked (OfFiles work.List files name bytes) files name bytes checked reply first.4 read in
+    let of : OfListed bytes checked contents reply = past_files files names contents (OfFiles work.List files name bytes checked) reply first.5 after in
     ⊎_elim (λ p. moved bytes names contents p.0 first.6 reply p.1) (λ p. absurd (p.0 first.6)) of
 
 one_listed : (files : Files) (name : List ℕ) (a b : Reply) → IsOfFirstForm files name → IsAnswer (list_words name) files a → IsAnswer (list_words name) files b → a ≡ b
@@ -103,7 +103,8 @@ one_listed files name a b first x y =
 usage : (words : List (List ℕ)) (files : Files) (a : Reply) → IsNoCommand words → IsAnswer words files a → a ≡ refused usage_line 2
 usage words files a none (inl p) = p.1
 usage words files a none (inr (inl p)) = absurd (none.0 p.0 p.1 p.2)
-usage words files a none (inr (inr p)) = absurd (none.1 p.0 p.1 p.2)
+usage words files a none (inr (inr (inl p))) = absurd (none.1 p.0 p.1 p.2)
+usage words files a none (inr (inr (inr p))) = absurd (none.2 p.0 p.1 p.2)
 
 pub one_answer : OneAnswer
 one_answer words files a b (inl none) x y = usage words files a none x ∙ sym (usage words files b none y)

@@ -25,7 +25,8 @@ const HEADER: &str = "row,kind,from,to,definition,use,name\n";
 
 const LISTING: &str = "row,kind,from,to,definition,use,name\n1,call,A,B,a.c:2:16,b.c:1:6,g\n";
 
-const USAGE: &str = "usage: coupling check|list|score|tests|pairs P | gen N | reduce P | order P\n";
+const USAGE: &str =
+    "usage: coupling check|list|score|tests|pairs P | gen N | devices P D | reduce P | order P\n";
 
 const TEST: &str = "[[test]]\nname = \"T1\"\nturns = 1000\ncalls = [[\"f\"]]\n";
 

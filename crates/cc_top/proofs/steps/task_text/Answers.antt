@@ -11,7 +11,7 @@ returns-in-Ok-clause-told g c =
 pub returns-in-Ok-clause-names : goal.returns-in-Ok-clause-names
 returns-in-Ok-clause-names g c =
     let names = rw (c.read_file.ensures.keeps, c.bytes.ensures) at c.document_text.ensures.names in
-    read_names (g.S.Shelf.files c.args.shelf.now) c.args.name.now c.in-Ok.file c.document_text.result c.in-Ok.ensures.within c.in-Ok.ensures.held names
+    read_names (g.S.Shelf.files c.args.shelf.now) c.args.work c.args.name.now c.in-Ok.file c.document_text.result c.in-Ok.ensures.within c.in-Ok.ensures.held names
 
 pub returns-in-Err-clause-names : goal.returns-in-Err-clause-names
-returns-in-Err-clause-names g c = project_names (g.S.Shelf.files c.args.shelf.now) c.args.name.now c.in-Err.refusal c.in-Err.ensures.names
+returns-in-Err-clause-names g c = project_names (g.S.Shelf.files c.args.shelf.now) c.args.work c.args.name.now c.in-Err.refusal c.in-Err.ensures.names

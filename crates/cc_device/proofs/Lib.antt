@@ -1,0 +1,4 @@
+pub mod Firsts
+pub mod KeyTexts
+pub mod Rounds
+pub mod Sizes

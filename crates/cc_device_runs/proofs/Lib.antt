@@ -1,0 +1,4 @@
+pub mod More
+pub mod Moved
+pub mod Plain
+pub mod Reported

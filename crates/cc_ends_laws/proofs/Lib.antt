@@ -1,0 +1,4 @@
+pub mod Holding
+pub mod Parts
+pub mod Steps
+pub mod Whole
