@@ -1,5 +1,5 @@
 -- What is listed of devices as slots is what is listed in plain words.
-use Rattle.std.proofs.Common.{ℕ, zero, suc, ◌+◌, ◌≡◌, ◌<◌, ◌≤◌, ◌⊎◌, inl, inr, ⊎_elim, true, List, [], ◌∷◌, ◌++◌, Option, Some, None, length, refl, sym, ap, ◌∙◌, subst, arith}
+use Rattle.std.proofs.Common.{ℕ, zero, suc, ◌+◌, ◌≡◌, ◌<◌, ◌⊎◌, inl, inr, ⊎_elim, true, List, [], ◌∷◌, ◌++◌, Option, Some, None, length, refl, sym, ap, ◌∙◌, subst, arith}
 use Rattle.std.specs.Prelude.{Contains, ◌↔◌, slice_get}
 use Rattle.std.proofs.lemmas.List.{length_push}
 use Rattle.std.proofs.lemmas.List.Elements.{Contains-push, Contains-push_cases, Contains-append_left}
@@ -13,7 +13,7 @@ use Rattle.cc_flows.specs.declared.flow.Found.{Found}
 use Rattle.cc_graph.specs.Points.{number}
 use Rattle.cc_graph.specs.declared.graph.Graph.{Graph}
 use Rattle.cc_graph.specs.declared.position.Position.TheVariants.{At}
-use Rattle.cc_listed.specs.Listed.{IsShared, StayInside}
+use Rattle.cc_listed.specs.Listed.{StayInside}
 use Rattle.cc_listed.specs.Stretches.{Accesses, IsAt, Stretch, UsesByName, accesses, steps, IsClearFor}
 use Rattle.cc_listed.specs.Tabled.{component_in, component_of, is_by_name, name_in}
 use Rattle.cc_listed.specs.declared.table.Access.{Access}

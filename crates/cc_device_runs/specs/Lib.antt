@@ -5,3 +5,5 @@ pub mod Listed
 pub mod Exercised
 pub mod Texts
 pub mod Reports
+pub mod Faults
+pub mod Refusals

@@ -14,7 +14,10 @@ use Rattle.cc_graph.specs.Points.{number}
 use Rattle.cc_graph.specs.declared.graph.Graph.{Graph}
 use Rattle.cc_graph.specs.declared.position.Position.TheVariants.{At}
 use Rattle.cc_listed.specs.Stretches.{IsReachable, Stretch}
+use Rattle.cc_listing.specs.declared.fault.ListFault.{ListFault}
+use Rattle.cc_listing.specs.declared.fault.ListFault.TheVariants as fault
 use Rattle.cc_listing_shared.specs.SharedRows as shared
+use Rattle.cc_rows.specs.Limits.{HasMore}
 use Rattle.cc_program.specs.declared.program.Program.{Program}
 use Rattle.cc_device_runs.specs.Asking.{node_role, reads_by, reads_of, writes_by, writes_of}
 use Rattle.cc_device_runs.specs.Roles.{roles_of}
@@ -76,3 +79,20 @@ pub record AreRows (P : Program) (G : Graph) (F : Facts) (devices : List Device)
   pub listed : (f : Found) → Contains found f ↔ IsListed P G next devices (row_of f)
   pub ascending : IsStrictlySortedBy found_cmp found
   pub rows_are : rows ≡ map row_of found
+
+-- there are more rows than 200,000 that are listed so
+pub record AreMoreRows (P : Program) (G : Graph) (F : Facts) (devices : List Device) : Type 0 where
+  pub calls : Calls
+  pub next : Next
+  pub are_calls : AreCalls P G F calls
+  pub are_next : AreNext P G calls next
+  pub more : HasMore found_cmp (λ f. IsListed P G next devices (row_of f)) 200000
+
+-- why there are no rows: too many come only where there are more than 200,000; of want of memory and of a graph without points
+-- nothing is said
+abbrev pub Refused : Program → Graph → Facts → List Device → ListFault → Type 0
+Refused P G F devices (fault.TooManyPoints count) = ⊥
+Refused P G F devices fault.TooManyFacts = ⊥
+Refused P G F devices fault.TooManyRows = AreMoreRows P G F devices
+Refused P G F devices fault.Internal = Unit {0}
+Refused P G F devices fault.Memory = Unit {0}

@@ -1,5 +1,6 @@
 // Why there is no report.
 ghost use Rattle.std.specs.Prelude.{◌≡◌};
+ghost use Rattle.cc_device_runs.specs.Faults as spec;
 
 use cc_base::Memory as NoMemory;
 use cc_listing::ListFault;
@@ -47,7 +48,9 @@ impl From<NoMemory> for DeviceReportFault {
 }
 
 /// Why there is no listing, as a fault of the report.
-pub fn of_list(fault: ListFault) -> DeviceReportFault {
+pub fn of_list(fault: ListFault) -> DeviceReportFault
+    ensures { result ≡ spec.of_list fault }
+{
     match fault {
         ListFault::Memory => DeviceReportFault::Memory,
         fault => DeviceReportFault::List(fault),
@@ -55,7 +58,9 @@ pub fn of_list(fault: ListFault) -> DeviceReportFault {
 }
 
 /// Why there are no marks, as a fault of the report.
-pub fn of_mark(fault: MarkFault) -> DeviceReportFault {
+pub fn of_mark(fault: MarkFault) -> DeviceReportFault
+    ensures { result ≡ spec.of_mark fault }
+{
     match fault {
         MarkFault::Lost => DeviceReportFault::Lost,
         MarkFault::Memory => DeviceReportFault::Memory,

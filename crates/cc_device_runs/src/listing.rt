@@ -1,9 +1,10 @@
 // Which couplings through devices are listed.
-ghost use Rattle.std.specs.Prelude.{◌≡◌, ◌<◌, ◌≤◌, [], IfOk, Err, length, map};
+ghost use Rattle.std.specs.Prelude.{◌≡◌, ◌<◌, ◌≤◌, IfErr, IfOk, Err, length, map};
 ghost use Rattle.std.specs.List.Sorted.{IsStrictlySortedBy};
 ghost use Rattle.cc_flows.specs.Flows.{found_cmp};
 ghost use Rattle.cc_flows.specs.Sweeping.{StaysWithin};
 ghost use Rattle.cc_rows.specs.declared.stop.Stop.TheVariants.{TooMany};
+ghost use Rattle.cc_listing.specs.Faults as faults;
 ghost use Rattle.cc_device_runs.specs.Listed as spec;
 
 use crate::asks::asks_of;
@@ -82,7 +83,10 @@ fn rows_of(alloc: Global, found: &[Found]) -> Result<DeviceRows, Memory>
     Ok(rows)
 }
 
-fn of_stop(stop: Stop) -> ListFault {
+// Why there are no rows, as a fault of the listing.
+fn of_stop(stop: Stop) -> ListFault
+    ensures { result ≡ faults.of_stop stop }
+{
     match stop {
         Stop::Memory => ListFault::Memory,
         Stop::TooMany => ListFault::TooManyRows,
@@ -103,7 +107,8 @@ pub fn list_devices(
     devices: &DeviceMap,
 ) -> Result<DeviceRows, ListFault>
     requires { length devices.now ≤ 64 }
-    ensures { IfOk result (spec.AreRows program.now graph.now facts.now devices.now) }
+    ensures listed { IfOk result (spec.AreRows program.now graph.now facts.now devices.now) }
+    ensures fault { IfErr result (spec.Refused program.now graph.now facts.now devices.now) }
 {
     let calls = calls_of(alloc, program, graph, facts)?;
     let next = next_across(alloc, program, graph, &calls)?;

@@ -1,8 +1,9 @@
 // From a program and its tests to what `devices` prints.
-ghost use Rattle.std.specs.Prelude.{◌≡◌, ◌≤◌, IfOk, length};
+ghost use Rattle.std.specs.Prelude.{◌≡◌, ◌≤◌, IfErr, IfOk, length};
 ghost use Rattle.cc_graph.specs.Graphs.{IsGraph};
 ghost use Rattle.cc_listing.specs.Answers.{AreFacts};
 ghost use Rattle.cc_device_runs.specs.Reports.{IsReport, IsReportBy};
+ghost use Rattle.cc_device_runs.specs.Refusals as refusals;
 ghost use Rattle.cc_device_runs.specs.Texts as spec;
 
 use crate::fault::{DeviceReportFault, of_list, of_mark};
@@ -29,12 +30,13 @@ pub struct DeviceReport {
 
 // The control points of a program.
 fn graph_of(alloc: Global, program: &Program) -> Result<Graph, DeviceReportFault>
-    ensures { IfOk result (λ graph. IsGraph program.now graph) }
+    ensures graph { IfOk result (λ graph. IsGraph program.now graph) }
+    ensures fault { IfErr result (refusals.IsPointless program.now) }
 {
     match lower(alloc, program) {
         Ok(graph) => Ok(graph),
         Err(GraphFault::TooManyPoints { count }) => {
-            Err(of_list(ListFault::TooManyPoints { count }))
+            Err(DeviceReportFault::List(ListFault::TooManyPoints { count }))
         }
         Err(GraphFault::Memory) => Err(DeviceReportFault::Memory),
     }
@@ -42,11 +44,12 @@ fn graph_of(alloc: Global, program: &Program) -> Result<Graph, DeviceReportFault
 
 // The points-to facts of a program.
 fn facts_of(alloc: Global, program: &Program) -> Result<Facts, DeviceReportFault>
-    ensures { IfOk result (AreFacts program.now) }
+    ensures facts { IfOk result (AreFacts program.now) }
+    ensures fault { IfErr result (refusals.IsFactless program.now) }
 {
     match solve(alloc, program) {
         Ok(facts) => Ok(facts),
-        Err(PointsFault::TooManyFacts) => Err(of_list(ListFault::TooManyFacts)),
+        Err(PointsFault::TooManyFacts) => Err(DeviceReportFault::List(ListFault::TooManyFacts)),
         Err(PointsFault::Memory) => Err(DeviceReportFault::Memory),
     }
 }
@@ -103,7 +106,8 @@ fn report_by(
     facts: &Facts,
 ) -> Result<DeviceReport, DeviceReportFault>
     requires { length devices.now ≤ 64 }
-    ensures { IfOk result (λ made. IsReportBy program.now tests.now devices.now graph.now facts.now made.text.items made.is_met) }
+    ensures report { IfOk result (λ made. IsReportBy program.now tests.now devices.now graph.now facts.now made.text.items made.is_met) }
+    ensures fault { IfErr result (refusals.IsRowless program.now graph.now facts.now devices.now) }
 {
     let rows = match list_devices(alloc, program, graph, facts, devices) {
         Ok(rows) => rows,
@@ -130,7 +134,8 @@ pub fn report_devices(
     devices: &DeviceMap,
 ) -> Result<DeviceReport, DeviceReportFault>
     requires { length devices.now ≤ 64 }
-    ensures { IfOk result (λ made. IsReport program.now tests.now devices.now made.text.items made.is_met) }
+    ensures report { IfOk result (λ made. IsReport program.now tests.now devices.now made.text.items made.is_met) }
+    ensures fault { IfErr result (refusals.IsRefused program.now devices.now) }
 {
     let graph = graph_of(alloc, program)?;
     let facts = facts_of(alloc, program)?;
